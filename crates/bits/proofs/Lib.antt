@@ -1,0 +1,4 @@
+pub mod Laws
+pub mod Totals
+mod Lowest
+mod Ones
