@@ -1,0 +1,5 @@
+pub mod Possible
+pub mod Sets
+pub mod Counting
+mod Closure
+mod Gathered

@@ -1,0 +1,4 @@
+pub mod Facts
+pub mod Sizes
+pub mod Sides
+pub mod Chains
