@@ -1,0 +1,4 @@
+mod Places
+mod Listings
+mod Moves
+mod Rows
