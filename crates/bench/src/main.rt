@@ -1,6 +1,7 @@
-//! Builds the small plant in both stores, and prints what they answer.
+//! Builds the small plant in both stores, and prints what they answer and who qualifies for some rules.
 mod account;
 mod plant;
+mod questions;
 mod show;
 
 use account::ask_chains;
@@ -14,6 +15,7 @@ use list::list::FactList;
 use list::store::FactListReading;
 use list::store::FactListStore;
 use model::store::Store;
+use questions::ask_rules;
 use std::error::AnyError;
 use std::io;
 
@@ -21,7 +23,8 @@ fn tell<S: Store>(rt: &LibcRuntime, name: &str, store: &mut S) -> io::Result<()>
     fill(rt, name, store)?;
     ask_facts(rt, store)?;
     ask_chains(rt, store)?;
-    close_circle(rt, store)
+    close_circle(rt, store)?;
+    ask_rules(rt, store)
 }
 
 fn run(rt: &LibcRuntime) -> Result<(), AnyError> {

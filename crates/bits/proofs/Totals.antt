@@ -43,6 +43,14 @@ unfolding total
 total-none f zero h = refl
 total-none f (suc n) h = let r = total-none f n h in let q = h n in omega arith
 
+-- a set that lost one number has fewer
+pub tally-less : (old new : ℕ → Bool) (n i : ℕ) → i < n → old i ≡ true → new i ≡ false → ((k : ℕ) → (k ≡ i → ⊥) → new k ≡ old k) → tally new n < tally old n
+tally-less old new n i l was is off =
+    let e = total-at (λ k. unit (old k)) (λ k. unit (new k)) n i l (λ k d. ap unit (off k d)) in
+    let p : unit (old i) ≡ 1 = ap unit was in
+    let q : unit (new i) ≡ 0 = ap unit is in
+    omega arith
+
 -- the first term apart
 pub total-front : (f : ℕ → ℕ) (n : ℕ) → total f (suc n) ≡ f 0 + total (λ k. f (suc k)) n
 unfolding total

@@ -82,6 +82,13 @@ impl Bits {
         }
     }
 
+    /// The set where it is wanted, and otherwise nothing.
+    pub fn when(self, wanted: bool) -> Bits
+        ensures { λ r. ⌜ ((k : ℕ) → bit (r .word) k ≡ (wanted && bit (self .word) k)) ⌝ }
+    {
+        if wanted { self } else { Bits::none() }
+    }
+
     /// The lowest number in the set.
     pub fn lowest(self) -> Option<u8>
         ensures { λ r. ⌜ Cases r ((k : ℕ) → bit (self .word) k ≡ false) (λ i. (bit (self .word) i ≡ true) × ((k : ℕ) → k < i → bit (self .word) k ≡ false)) ⌝ }

@@ -2,9 +2,8 @@
 use mathlib.Core.Path.{_≡_, refl, ap}
 use mathlib.Core.Bool.{Bool, true, false, not, _||_}
 use Prim.Native.Nat.{ℕ, _<_}
-use native.Mathlib.Omega.{arith}
-use Rattle.bits.specs.Total.{total, unit, tally}
-use Rattle.bits.proofs.Totals.{total-at}
+use Rattle.bits.specs.Total.{tally}
+use Rattle.bits.proofs.Totals.{tally-less}
 use Rattle.model.specs.Facts.{Facts, OnlyPossible}
 use Rattle.model.specs.Sides.{under, under-sort}
 use Rattle.model.specs.Chains.{Chain, one, more, Below}
@@ -30,8 +29,4 @@ or-none false b h = h
 -- a set that gained one number leaves fewer outside
 pub fewer : (old new : ℕ → Bool) (n i : ℕ) → i < n → old i ≡ false → new i ≡ true → ((k : ℕ) → (k ≡ i → ⊥) → new k ≡ old k)
     → tally (λ k. not (new k)) n < tally (λ k. not (old k)) n
-fewer old new n i l out in-it off =
-    let e = total-at (λ k. unit (not (old k))) (λ k. unit (not (new k))) n i l (λ k d. ap (λ (b : Bool). unit (not b)) (off k d)) in
-    let p : unit (not (old i)) ≡ 1 = ap (λ (b : Bool). unit (not b)) out in
-    let q : unit (not (new i)) ≡ 0 = ap (λ (b : Bool). unit (not b)) in-it in
-    omega arith
+fewer old new n i l out in-it off = tally-less (λ k. not (old k)) (λ k. not (new k)) n i l (ap not out) (ap not in-it) (λ k d. ap not (off k d))

@@ -1,5 +1,5 @@
 pub mod Possible
 pub mod Sets
 pub mod Counting
-mod Closure
+pub mod Closure
 mod Gathered

@@ -1,0 +1,5 @@
+mod Stacks
+mod Rooms
+mod Taken
+pub mod Standing
+pub mod Naming

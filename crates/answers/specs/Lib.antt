@@ -1,0 +1,4 @@
+pub mod Qualify
+pub mod Stack
+pub mod Validity
+pub mod Refuted

@@ -1,0 +1,8 @@
+mod Steps
+mod Coding
+pub mod Accepts
+pub mod Parsed
+mod Slots
+mod Tops
+mod Backwards
+mod Texts

@@ -1,0 +1,11 @@
+//! Access rules: node lists, the rules that they are, and the book that keeps them.
+pub mod book;
+pub mod bytes;
+pub mod fault;
+pub mod node;
+pub mod reading;
+pub mod rule;
+pub mod scan;
+#[cfg(test)]
+mod tests;
+pub mod text;
