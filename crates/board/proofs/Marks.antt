@@ -1,5 +1,5 @@
 -- What rows say of facts, and what a written row changes.
-use mathlib.Core.Path.{_≡_, refl, sym, ap, _∙_}
+use mathlib.Core.Path.{_≡_, refl, sym, ap, ap₂, _∙_}
 use mathlib.Core.Bool.{Bool, true, false, cond, not, _&&_, _||_}
 use mathlib.Core.List.{List}
 use mathlib.Core.Logic.{inl, inr, ⊎-elim}
@@ -8,7 +8,7 @@ use native.Mathlib.Omega.{arith}
 use lib.ListN.{getD, set, length, replicate}
 use lib.Dec.{eqb, ltb}
 use Rattle.std.proofs.shelf.Lists.{getD-set-same, getD-set-other}
-use Rattle.std.proofs.shelf.Tests.{eq-eqb, ne-eqb, cases-bool, cases-eq, cases-lt, cond-true, cond-false, and-left, and-right, and-parts, and-from, or-left, or-right, lt-ltb, le-ltb, both-ways, true≢false}
+use Rattle.std.proofs.shelf.Tests.{eqb-true, eq-eqb, ne-eqb, cases-bool, cases-eq, cases-lt, cond-true, cond-false, and-left, and-right, and-parts, and-from, or-left, or-right, lt-ltb, le-ltb, both-ways, true≢false}
 use Rattle.bits.specs.Bit.{bit}
 use Rattle.bits.proofs.Laws.{bit-none, bit-past}
 use Rattle.model.specs.Facts.{Facts, OnlyPossible, possible, same, placed}
@@ -151,3 +151,55 @@ takes-possible S s x y can =
     (λ e. or-right (S s x y) (ltb (size S) 16576) (lt-ltb (size S) 16576
     (let a = size-put S s x y can e in let b = size-most (placed S s x y true) in omega arith)))
     (cases-bool (S s x y)))
+
+-- a row that is written whole
+pub overwritten : (rows : List ℕ) (s y w : ℕ) → possible s 0 y ≡ true → row-place s y < length rows
+    → (a b c : ℕ) → marked (set rows (row-place s y) w) a b c ≡ cond (eqb a s && eqb c y) (possible a b c && bit w b) (marked rows a b c)
+unfolding marked
+overwritten rows s y w can l a b c =
+    ⊎-elim
+    (λ (p : possible a b c ≡ true). ⊎-elim
+    (λ (q : row-place a c ≡ row-place s y).
+    let r = one-row s 0 y a b c can p q in
+    ap (λ (i : ℕ). possible a b c && bit (getD (set rows (row-place s y) w) i 0) b) q
+    ∙ ap (λ (v : ℕ). possible a b c && bit v b) (getD-set-same rows (row-place s y) w 0 l)
+    ∙ sym (cond-true (eqb a s && eqb c y) _ _ (and-from (eqb a s) (eqb c y) (eq-eqb a s (r .0)) (eq-eqb c y (r .1)))))
+    (λ (d : row-place a c ≡ row-place s y → ⊥).
+    ap (λ (v : ℕ). possible a b c && bit v b) (getD-set-other rows (row-place s y) (row-place a c) w 0 d)
+    ∙ sym (cond-false (eqb a s && eqb c y) _ _ (elsewhere (λ ea ec. d (ap₂ row-place ea ec)))))
+    (cases-eq (row-place a c) (row-place s y)))
+    (λ (p : possible a b c ≡ false).
+    and-left (possible a b c) _ p ∙ sym (either-false (eqb a s && eqb c y) _ _ (and-left (possible a b c) (bit w b) p) (and-left (possible a b c) _ p)))
+    (cases-bool (possible a b c))
+  where
+    elsewhere : (a ≡ s → c ≡ y → ⊥) → (eqb a s && eqb c y) ≡ false
+    elsewhere d =
+        ⊎-elim (λ (e : a ≡ s). and-right (eqb a s) (eqb c y) (ne-eqb c y (d e))) (λ (n : a ≡ s → ⊥). and-left (eqb a s) (eqb c y) (ne-eqb a s n)) (cases-eq a s)
+
+    either-false : (t u v : Bool) → u ≡ false → v ≡ false → cond t u v ≡ false
+    either-false true u v p q = p
+    either-false false u v p q = q
+
+-- a row of which no fact is possible has none to write
+pub not-written : (rows : List ℕ) (s y w : ℕ) → possible s 0 y ≡ false → (a b c : ℕ) → marked rows a b c ≡ cond (eqb a s && eqb c y) (possible a b c && bit w b) (marked rows a b c)
+not-written rows s y w never a b c =
+    ⊎-elim
+    (λ (h : (eqb a s && eqb c y) ≡ true).
+    let p = and-parts (eqb a s) (eqb c y) h in
+    let ea = eqb-true a s (p .0) in
+    let ec = eqb-true c y (p .1) in
+    let same : marked rows a b c ≡ marked rows s b y = cc in
+    let out : possible a b c ≡ false = impossible a b c ea ec in
+    same ∙ row-none rows s y never b ∙ sym (cond-true (eqb a s && eqb c y) _ _ h ∙ and-left (possible a b c) (bit w b) out))
+    (λ (h : (eqb a s && eqb c y) ≡ false). sym (cond-false (eqb a s && eqb c y) _ _ h))
+    (cases-bool (eqb a s && eqb c y))
+  where
+    impossible : (a b c : ℕ) → a ≡ s → c ≡ y → possible a b c ≡ false
+    impossible a b c ea ec =
+        ⊎-elim
+        (λ e. let p = parts a b c e in
+        let zero : possible a 0 c ≡ true = whole a 0 c (record { sort = p .sort; lower = omega arith; upper = p .upper; pair = p .pair }) in
+        let same : possible a 0 c ≡ possible s 0 y = cc in
+        absurd (both-ways (possible s 0 y) never (sym same ∙ zero)))
+        (λ e. e)
+        (cases-bool (possible a b c))

@@ -4,7 +4,8 @@ ghost use Rattle.bits.specs.Bit.{bit};
 ghost use Rattle.board.specs.Rows.{marked, row-place};
 ghost use Rattle.model.specs.Facts.{OnlyPossible, placed, possible};
 ghost use lib.ListN.{getD, set};
-ghost use mathlib.Core.Bool.{false, true};
+ghost use lib.Dec.{eqb};
+ghost use mathlib.Core.Bool.{_&&_, cond, false, true};
 ghost use mathlib.Core.List.{[]};
 ghost use mathlib.Core.Path.{_≡_};
 use bits::Bits;
@@ -31,6 +32,25 @@ impl Board {
     {
         Board { rows: [0; ROWS] }
     }
+
+    /// Writes a whole row: of this sort and this y the board then holds the facts of the numbers in the row, and no others. Nothing happens where no such
+    /// fact is possible.
+    pub fn set_row(&mut self, sort: u8, y: u8, row: Bits)
+        ensures { λ _. ⌜ ((s x v : ℕ) → marked (now (self .exit) .rows) s x v ≡ cond (eqb s sort && eqb v y) (possible s x v && bit (row .word) x) (marked (now (self .entry) .rows) s x v)) ⌝ }
+    {
+        let lowest = Fact { sort, x: 0, y };
+        if lowest.is_possible() {
+            overwrite(&mut self.rows, sort, y, row);
+        }
+    }
+}
+
+// Writes a whole possible row.
+fn overwrite(rows: &mut [u64; 259], sort: u8, y: u8, row: Bits)
+    requires { ⌜ possible sort 0 y ≡ true ⌝ }
+    ensures { λ _. ⌜ ((s x v : ℕ) → marked (now (rows .exit)) s x v ≡ cond (eqb s sort && eqb v y) (possible s x v && bit (row .word) x) (marked (now (rows .entry)) s x v)) ⌝ }
+{
+    rows[place(sort, y)] = row.word;
 }
 
 // Where the row of a possible fact lies.
