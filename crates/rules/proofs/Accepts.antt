@@ -114,6 +114,9 @@ shape-tree (either l r) d ns k i =
         let less : d + 1 + 1 - 1 ≡ d + 1 = omega arith in
         cond-false _ _ _ (le-ltb (d + 1 + 1) 2 (omega arith)) ∙ ap (λ x. bad-shape (j + 1) x ns) less ∙ k (j + 1)
 
+pub shape-whole : (t : Tree) → bad-shape 0 0 (nodes t) ≡ None
+shape-whole t = ap (bad-shape 0 0) (sym (append-nil (nodes t))) ∙ shape-tree t 0 [] (λ j. refl) 0
+
 range-append : (ns ms : List Node) → nodes-in-range ns ≡ true → nodes-in-range ms ≡ true → nodes-in-range (ns ++ ms) ≡ true
 range-append [] ms p q = q
 range-append (n ∷ ns) ms p q = let g = and-parts (node-in-range n) (nodes-in-range ns) p in and-from (node-in-range n) (nodes-in-range (ns ++ ms)) (g .0) (range-append ns ms (g .1) q)
@@ -176,12 +179,11 @@ from-rule bs (t, (range, e, small)) =
     let f = fields-back 0 (nodes t) (range-tree t range) in
     let long : length bs ≡ length (nodes t) = ap length (sym e) ∙ length-map (nodes t) node-bytes in
     let size : 1 ≤ length bs = omega (arith, some-nodes t) in
-    let shape : bad-shape 0 0 (nodes t) ≡ None = ap (bad-shape 0 0) (sym (append-nil (nodes t))) ∙ shape-tree t 0 [] (λ j. refl) 0 in
     cond-true _ _ _ (and-from _ _ (lt-ltb _ _ size) (lt-ltb _ _ (omega arith)))
     ∙ ap (λ xs. or-else (bad-field 0 xs) (bad-shape 0 0 (map node-of xs))) (sym e)
     ∙ ap (λ x. or-else x (bad-shape 0 0 (map node-of (map node-bytes (nodes t))))) (f .0)
     ∙ ap (bad-shape 0 0) (f .1)
-    ∙ shape
+    ∙ shape-whole t
 
 pub accepts : Accepts-rules
 accepts bs = (to-rule bs, from-rule bs)

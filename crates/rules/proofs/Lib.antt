@@ -6,3 +6,5 @@ mod Slots
 mod Tops
 mod Backwards
 mod Texts
+mod Written
+pub mod Edited

@@ -6,3 +6,4 @@ pub mod Rules
 pub mod Books
 pub mod Text
 pub mod Parts
+pub mod Edits
