@@ -1,0 +1,11 @@
+pub mod Sided
+pub mod Joining
+pub mod Splitting
+pub mod Parts
+pub mod Refusals
+pub mod Slots
+pub mod Grounds
+pub mod Shares
+pub mod Outcomes
+pub mod Steps
+pub mod States
