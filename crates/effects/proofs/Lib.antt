@@ -1,0 +1,12 @@
+pub mod OneSide
+pub mod Others
+pub mod JoinPairs
+pub mod SplitPairs
+pub mod SplitOnto
+pub mod Sound
+pub mod Naming
+pub mod Growth
+pub mod SamePeople
+pub mod Settled
+pub mod OneFact
+pub mod Steps
