@@ -1,5 +1,6 @@
-//! Builds the small plant in both stores, and prints what they answer and who qualifies for some rules.
+//! Builds the small plant in both stores, and prints what they answer and who qualifies for some rules. Then joins the two crews and splits them again.
 mod account;
+mod noon;
 mod plant;
 mod questions;
 mod show;
@@ -15,6 +16,7 @@ use list::list::FactList;
 use list::store::FactListReading;
 use list::store::FactListStore;
 use model::store::Store;
+use noon::tell_noon;
 use questions::ask_rules;
 use std::error::AnyError;
 use std::io;
@@ -55,6 +57,7 @@ fn run(rt: &LibcRuntime) -> Result<(), AnyError> {
         "Fact list over 20 words",
         &mut FactList::new(&mut words),
     )?;
+    tell_noon(rt)?;
     Ok(())
 }
 
