@@ -1,11 +1,10 @@
 -- No node names an absent entity exactly if every name stands.
-use Rattle.std.proofs.Common.{◌≡◌, ℕ, ◌+◌, Bool, true, false, cond, ◌&&◌, List, [], ◌∷◌, ◌++◌, Some, None, Option, sym, refl, ap, ◌∙◌, subst, arith}
+use Rattle.std.proofs.Common.{◌≡◌, ℕ, ◌+◌, Bool, true, false, cond, ◌&&◌, List, [], ◌∷◌, ◌++◌, Some, None, Option, sym, refl, ap, ◌∙◌, arith}
 use Rattle.std.proofs.lemmas.Bool.{and_parts, and_from, cond-true}
 use Rattle.model.specs.Facts.{Facts}
 use Rattle.rules.specs.declared.node.Node.{Node}
-use Rattle.rules.specs.declared.rule.Rule.{Rule}
 use Rattle.rules.specs.Trees.{Tree, is, isnt, both, either, nodes}
-use Rattle.rules.specs.Rules.{rule_nodes, rule_tree, IsTree}
+use Rattle.rules.specs.Rules.{rule_nodes, rule_tree}
 use Rattle.rules.proofs.Accepts.{rules_are_trees}
 use Rattle.answers.specs.Validity.{NamesStand, node_stands, first_absent, NamesChecked}
 

@@ -1,11 +1,11 @@
 -- Who qualifies stands, and where the ends of pairs stand the pair alone decides.
-use Rattle.std.proofs.Common.{◌≡◌, ℕ, true, ◌⊎◌, inl, inr, ⊎_elim}
+use Rattle.std.proofs.Common.{◌≡◌, ℕ, true, ⊎_elim}
 use Rattle.model.specs.Facts.{Facts}
 use Rattle.model.specs.Sides.{actor_stands}
 use Rattle.rules.specs.declared.node.Leaf.{Leaf}
 use Rattle.rules.specs.declared.node.Leaf.TheVariants.{Actor, Group}
-use Rattle.rules.specs.Trees.{Tree, is, isnt, both, either}
-use Rattle.answers.specs.Qualify.{InLeaf, Reaches, Qualifies, EndsStand, PairsSuffice, QualifiedStand}
+use Rattle.rules.specs.Trees.{is, isnt, both, either}
+use Rattle.answers.specs.Qualify.{InLeaf, PairsSuffice, QualifiedStand}
 
 leaf-stands : (F : Facts) (l : Leaf) (a : ℕ) → InLeaf F l a → actor_stands F a ≡ true
 leaf-stands F (Actor b) a h = h.0

@@ -1,4 +1,6 @@
 //! Who qualifies for a rule: its reading, written once for every kind of answer, and when a rule is valid.
+#![tactic(auto)]
+
 pub mod answer;
 pub mod everyone;
 mod members;

@@ -1,4 +1,6 @@
 //! Builds the small plant in both stores, and prints what they answer and who qualifies for some rules. Then joins the two crews and splits them again.
+#![tactic(auto)]
+
 mod account;
 mod noon;
 mod plant;

@@ -1,11 +1,10 @@
 -- The laws of single bits.
-use Rattle.std.proofs.Common.{◌≡◌, ℕ, zero, suc, ◌+◌, ◌-◌, ◌*◌, ◌/◌, ◌%◌, ◌^◌, ◌<◌, ◌≤◌, Bool, true, false, not, ◌&&◌, ◌||◌, eqb, ◌⊎◌, sym, refl, ap, ◌∙◌, subst, ap₂, inl, inr, ⊎_elim, le_of_suc-le-suc, not-suc-le-zero, mod-lt, mod-eq_of_lt, zero-lt-suc, mul_comm, pow-suc, div-add-mod', div-one, mul-div_cancel, arith, pow_pos, pow_mono, shr-shr}
+use Rattle.std.proofs.Common.{◌≡◌, ℕ, zero, suc, ◌-◌, ◌*◌, ◌/◌, ◌%◌, ◌^◌, ◌<◌, ◌≤◌, Bool, true, false, not, ◌&&◌, ◌||◌, eqb, sym, refl, ap, ◌∙◌, ⊎_elim, le_of_suc-le-suc, not-suc-le-zero, mod-lt, mod-eq_of_lt, mul_comm, pow-suc, div-one, mul-div_cancel, arith, pow_pos, pow_mono}
 use native.Mathlib.Nat.{div-div-eq-div-mul, div-eq_of_lt, zero-div, mul-mod_left}
 use lib.Dec.{eqb-suc-suc}
 use lib.Bits.{bit_and, bit_or, bit_xor, and_shr, or_shr, xor_shr, and_mod, or_mod, xor_mod, and_mask, xor_add_and, or_add_and, and_le_r}
 use lib.Arith.{bin_ind, dbl_pred, digits_mod, digits_div}
-use lib.Pow.{pow-lt, shl-shr}
-use Rattle.std.proofs.lemmas.Bool.{eqb-true, eqb-false, eq-eqb, ne_eqb, cases_Bool, cases_eq, both_ways, cases_lt, not-true, not-false, and_parts, and_from, and_left}
+use Rattle.std.proofs.lemmas.Bool.{eqb-true, eqb-false, ne_eqb, cases_Bool, cases_eq, both_ways, cases_lt, not-true, not-false, and_parts, and_from, and_left}
 use Rattle.std.proofs.lemmas.Nat.{one_shl, pow_below}
 use Rattle.std.proofs.lemmas.Bool.Decides.{nat_tests}
 use Rattle.bits.specs.Bit.{bit}

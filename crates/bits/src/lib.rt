@@ -1,4 +1,6 @@
 //! Sets of numbers from 0 to 63, each in one word.
+#![tactic(auto)]
+
 ghost use Rattle.std.specs.Prelude.{◌≡◌, ℕ, ◌<◌, true, false, not, ◌&&◌, ◌||◌, Decides, MatchOption, ◌==◌, nat_lt};
 ghost use Rattle.bits.specs.Bit.{bit};
 ghost use Rattle.bits.specs.Total.{tally};

@@ -1,11 +1,11 @@
 -- The ones of all rows are the facts of the set.
-use Rattle.std.proofs.Common.{◌≡◌, ℕ, suc, ◌+◌, ◌-◌, ◌*◌, ◌<◌, ◌≤◌, Bool, true, ◌&&◌, List, get_or, sym, refl, ap, ◌∙◌, inl, inr, add-one, arith}
+use Rattle.std.proofs.Common.{◌≡◌, ℕ, ◌+◌, ◌*◌, ◌<◌, ◌≤◌, Bool, true, ◌&&◌, List, get_or, refl, ap, ◌∙◌, inl, inr, add-one, arith}
 use Rattle.bits.specs.Bit.{bit}
 use Rattle.bits.specs.Total.{total, unit, tally}
 use Rattle.bits.proofs.Totals.{total-same, total_cut, total-most, tally-most}
-use Rattle.model.specs.Facts.{Facts, possible}
+use Rattle.model.specs.Facts.{possible}
 use Rattle.model.specs.Sizes.{row_size, sort_size, size}
-use Rattle.model.proofs.Possible.{Parts, whole}
+use Rattle.model.proofs.Possible.{whole}
 use Rattle.model.proofs.Counting.{standing-size, total_seven}
 use Rattle.board.specs.Rows.{marked, row_place}
 use Rattle.board.proofs.Marks.{at}

@@ -1,4 +1,6 @@
 //! The bit board: a store with room for every possible fact, a bit for each.
+#![tactic(auto)]
+
 ghost use Rattle.std.specs.Prelude.{◌≡◌, ℕ, ◌<◌, true, false, ◌&&◌, [], if◌then◌else◌, ◌==◌, nat_eq};
 ghost use Rattle.bits.specs.Bit.{bit};
 ghost use Rattle.board.specs.Rows.{marked, row_place};

@@ -1,4 +1,6 @@
 //! A client of the engine: takes one change from its opening to its end, and leaves no ticket.
+#![tactic(auto)]
+
 use board::Board;
 use drafts::step::{Entity, Step};
 use engine::engine::Engine;

@@ -1,5 +1,5 @@
 -- The rules that a split may make too long.
-use Rattle.std.proofs.Common.{◌≡◌, ℕ, ◌<◌, ◌≤◌, Bool, true, false, cond, ltb, ◌⊎◌, Some, None, Option, sym, refl, ap, ◌∙◌, inl, inr, ⊎_elim, arith}
+use Rattle.std.proofs.Common.{◌≡◌, ℕ, ◌<◌, ◌≤◌, Bool, true, false, ltb, ◌⊎◌, Some, None, Option, sym, refl, ap, ◌∙◌, inl, inr, ⊎_elim, arith}
 use Rattle.model.specs.declared.side.Side.{Side}
 use Rattle.rules.specs.Trees.{Tree}
 use Rattle.drafts.specs.Shares.{LowestLong, if_fits, parted_rule, too_long}

@@ -1,8 +1,8 @@
 -- A row with one fact put in or taken out.
-use Rattle.std.proofs.Common.{◌≡◌, ℕ, Bool, true, false, cond, not, ◌&&◌, ◌||◌, eqb, ltb, ◌⊎◌, sym, refl, ap, ◌∙◌, subst, ⊎_elim}
-use Rattle.std.proofs.lemmas.Bool.{and_left, and_right, and_from, eq-eqb, ne_eqb, eqb-true, and_parts, cases_Bool, cond-true, cond-false}
+use Rattle.std.proofs.Common.{◌≡◌, ℕ, Bool, true, false, cond, not, ◌&&◌, ◌||◌, eqb, sym, refl, ap, ◌∙◌, ⊎_elim}
+use Rattle.std.proofs.lemmas.Bool.{and_left, and_right, eq-eqb, eqb-true, and_parts, cases_Bool}
 use Rattle.model.specs.Facts.{Facts, OnlyPossible, possible, same, placed}
-use Rattle.model.proofs.Sets.{placed_here, placed_off}
+use Rattle.model.proofs.Sets.{placed_off}
 
 pub placed-possible : (F : Facts) → OnlyPossible F → (s x y : ℕ) (v : Bool) → possible s x y ≡ true → OnlyPossible (placed F s x y v)
 placed-possible F only s x y v can a b c h =

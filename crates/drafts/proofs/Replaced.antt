@@ -1,13 +1,13 @@
 -- A side that is replaced row by row.
-use Rattle.std.proofs.Common.{◌≡◌, ℕ, ◌+◌, ◌<◌, ◌≤◌, Bool, true, false, cond, ◌&&◌, ◌||◌, eqb, ltb, ◌≢◌, ◌⊎◌, sym, refl, ap, ◌∙◌, subst, ap₂, inl, inr, ⊎_elim, arith}
+use Rattle.std.proofs.Common.{◌≡◌, ℕ, ◌+◌, ◌<◌, ◌≤◌, Bool, true, false, cond, ◌&&◌, ◌||◌, eqb, ltb, ◌≢◌, sym, refl, ap, ◌∙◌, ap₂, ⊎_elim, arith}
 use Rattle.std.proofs.lemmas.Bool.Decides.{nat_tests}
-use Rattle.std.proofs.lemmas.Bool.{cases_eq, cases_lt, cases_Bool, cond-true, cond-false, and_from, and_left, and_right, and_parts, or_left, or_right, or_from, eq-eqb, ne_eqb, lt-ltb, le-ltb, both_ways}
+use Rattle.std.proofs.lemmas.Bool.{cases_eq, cases_lt, cases_Bool, cond-true, cond-false, and_from, and_left, and_right, or_left, or_right, or_from, eq-eqb, ne_eqb, lt-ltb, le-ltb}
 use Rattle.model.specs.Facts.{Facts, OnlyPossible, possible}
 use Rattle.model.specs.Sides.{stands_sort, has_sort, under_sort}
 use Rattle.model.specs.declared.side.Side.{Side}
 use Rattle.model.specs.declared.side.Side.TheVariants.{Role, Unit}
-use Rattle.model.proofs.Possible.{Parts, parts}
-use Rattle.drafts.specs.Sided.{Sided, sided, with_side}
+use Rattle.model.proofs.Possible.{parts}
+use Rattle.drafts.specs.Sided.{sided, with_side}
 use Rattle.drafts.proofs.SideFacts.{at-stands, at_has, at_under, at_other, stands_low, has_pair, under_pair}
 
 -- the pairs of a side below y are those of G, and the rest is as in B

@@ -1,11 +1,11 @@
 -- A model with the facts of one side replaced.
-use Rattle.std.proofs.Common.{◌≡◌, ℕ, ◌<◌, ◌≤◌, Bool, true, false, cond, ◌&&◌, eqb, sym, refl, ap, ◌∙◌, subst, inl, inr, ⊎_elim, arith}
+use Rattle.std.proofs.Common.{◌≡◌, ℕ, ◌<◌, ◌≤◌, true, ◌&&◌, eqb, sym, refl, ◌∙◌, subst, inl, inr, ⊎_elim, arith}
 use Rattle.std.proofs.lemmas.Bool.{cases_eq, cond-false, ne_eqb, and_parts, eqb-true}
-use Rattle.model.specs.Facts.{Facts, OnlyPossible, possible}
-use Rattle.model.specs.Sides.{stands_sort, has_sort, under_sort, stands, has, under}
+use Rattle.model.specs.Facts.{Facts, OnlyPossible}
+use Rattle.model.specs.Sides.{stands_sort, has_sort, under_sort}
 use Rattle.model.specs.declared.side.Side.{Side}
 use Rattle.model.specs.declared.side.Side.TheVariants.{Role, Unit}
-use Rattle.model.proofs.Possible.{Parts, parts, whole}
+use Rattle.model.proofs.Possible.{parts, whole}
 use Rattle.drafts.specs.Sided.{Sided, sided, with_side}
 
 pub at-stands : (F : Facts) (k : Side) (S : Sided) (x y : ℕ) → with_side F k S (stands_sort k) x y ≡ (eqb y 0 && S.stands x)

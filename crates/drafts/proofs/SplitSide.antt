@@ -1,10 +1,8 @@
 -- A split, at the facts of its side.
-use Rattle.std.proofs.Common.{◌≡◌, ℕ, ◌<◌, Bool, true, false, cond, not, ◌&&◌, ◌||◌, eqb, ◌⊎◌, sym, refl, ap, ◌∙◌, subst, inl, inr, ⊎_elim, arith}
+use Rattle.std.proofs.Common.{◌≡◌, ℕ, ◌<◌, Bool, true, not, ◌&&◌, ◌||◌, eqb, ⊎_elim, arith}
 use Rattle.std.proofs.lemmas.Bool.{or_cases, and_parts, eqb-true}
-use Rattle.bits.specs.Bit.{bit}
 use Rattle.bits.proofs.Laws.{bit_below}
 use Rattle.model.specs.Facts.{Facts, OnlyPossible}
-use Rattle.model.specs.declared.side.Side.{Side}
 use Rattle.drafts.specs.declared.parted.Parted.{Parted}
 use Rattle.drafts.specs.Parts.{parts_of}
 use Rattle.drafts.specs.Sided.{Sided, sided}

@@ -2,7 +2,7 @@
 use Rattle.std.proofs.Common.{◌≡◌, ℕ, Bool, true, false, not, ◌&&◌, ltb, Some, None, Decides, Option, sym, refl, ap, ◌∙◌, inl, inr, arith}
 use Rattle.std.proofs.lemmas.Bool.{not-false, and_parts, ltb-true, leb-true, true≢false, cond-true, cond-false}
 use Rattle.model.specs.Facts.{possible}
-use Rattle.model.proofs.Possible.{Parts, whole}
+use Rattle.model.proofs.Possible.{whole}
 use Rattle.drafts.specs.declared.refusal.Refusal.{Refusal}
 use Rattle.drafts.specs.Grounds.{refused_if, entity_range, pair_range, pair_sort}
 

@@ -1,5 +1,5 @@
 -- The facts of one side, roles or units, and a model with those facts replaced.
-use Rattle.std.specs.Prelude.{◌≡◌, ℕ, Bool, true, cond, ◌&&◌, ◌==◌}
+use Rattle.std.specs.Prelude.{ℕ, Bool, cond, ◌&&◌, ◌==◌}
 use Rattle.model.specs.Facts.{Facts}
 use Rattle.model.specs.Sides.{stands_sort, has_sort, under_sort, stands, has, under}
 use Rattle.model.specs.declared.side.Side.{Side}

@@ -1,5 +1,5 @@
 -- What a book says: the tree of the rule in each slot.
-use Rattle.std.specs.Prelude.{ℕ, cond, ◌&&◌, List, [], map, Some, None, Option, ◌==◌}
+use Rattle.std.specs.Prelude.{ℕ, cond, List, [], map, Some, None, Option, ◌==◌}
 use Rattle.rules.specs.Books.{slot_rule}
 use Rattle.rules.specs.Bytes.{node_of}
 use Rattle.rules.specs.Rules.{rule_tree, first_tree, trees}

@@ -1,4 +1,6 @@
 //! A model and a book in preparation, and the steps that edit them.
+#![tactic(auto)]
+
 pub mod draft;
 mod entities;
 mod joined;

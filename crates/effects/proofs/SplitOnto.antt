@@ -5,7 +5,6 @@ use Rattle.std.proofs.lemmas.Bool.Decides.{nat_tests}
 use Rattle.model.specs.Facts.{Facts}
 use Rattle.model.specs.Sides.{stands, has, under}
 use Rattle.model.specs.declared.side.Side.{Side}
-use Rattle.answers.specs.Qualify.{EndsStand}
 use Rattle.drafts.specs.Splitting.{Parts}
 use Rattle.effects.specs.Fits.{SplitFits}
 use Rattle.effects.specs.Pairs.{HasOnto, UnderOnto, whole_of}

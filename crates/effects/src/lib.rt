@@ -1,4 +1,6 @@
 //! What steps do to a model and to the answers of its rules, as theorems.
+#![tactic(auto)]
+
 ghost use Rattle.effects.specs.Answers.{JoinGrows, SplitKeepsAnswers};
 ghost use Rattle.effects.specs.Kept.{JoinKeepsEnds, JoinMakesNoCircle, SplitKeepsEnds, SplitMakesNoCircle};
 ghost use Rattle.effects.specs.Left.{JoinLeaves, SplitLeaves};

@@ -1,4 +1,6 @@
 //! The engine: a released model and book, and at most one change in preparation, over any store.
+#![tactic(auto)]
+
 mod asking;
 mod checking;
 pub mod engine;

@@ -1,9 +1,9 @@
 -- Facts among the words.
-use Rattle.std.proofs.Common.{◌≡◌, ℕ, zero, suc, ◌+◌, ◌*◌, ◌/◌, ◌%◌, ◌<◌, ◌≤◌, Bool, true, false, ◌&&◌, ◌||◌, eqb, ◌⊎◌, List, get_or, Decides, sym, refl, ap, ◌∙◌, subst, inl, inr, ⊎_elim, add-one, arith}
-use Rattle.std.proofs.lemmas.Bool.{cases_Bool, cases_lt, and_left, and_parts, and_from, eqb-true, eq-eqb, both_ways, lt-ltb, le-ltb}
+use Rattle.std.proofs.Common.{◌≡◌, ℕ, ◌/◌, ◌%◌, ◌<◌, ◌≤◌, Bool, true, false, ◌&&◌, eqb, List, get_or, Decides, sym, refl, ap, ◌∙◌, ⊎_elim, arith}
+use Rattle.std.proofs.lemmas.Bool.{cases_Bool, and_left, and_parts}
 use Rattle.std.proofs.lemmas.Bool.Decides.{same_from_decides, Decides-eqb, Decides-below_or, Decides-like}
-use Rattle.model.specs.Facts.{Facts, OnlyPossible, possible, same, placed, fact_word}
-use Rattle.model.proofs.Possible.{Parts, parts, not_same}
+use Rattle.model.specs.Facts.{OnlyPossible, possible, placed, fact_word}
+use Rattle.model.proofs.Possible.{parts, not_same}
 use Rattle.model.proofs.Sets.{placed-is}
 use Rattle.list.specs.Words.{among, listed, free}
 

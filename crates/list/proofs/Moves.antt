@@ -1,5 +1,5 @@
 -- What putting and dropping make of sound words.
-use Rattle.std.proofs.Common.{◌≡◌, ℕ, zero, suc, ◌+◌, ◌-◌, ◌*◌, ◌/◌, ◌%◌, ◌<◌, ◌≤◌, min, Bool, true, false, cond, not, ◌&&◌, ◌||◌, eqb, ltb, ◌≢◌, ◌⊎◌, List, ◌++◌, length, get_or, drop, set, replicate, sym, refl, ap, ◌∙◌, subst, ap₂, inl, inr, ⊎_elim, arith}
+use Rattle.std.proofs.Common.{◌≡◌, ℕ, ◌+◌, ◌-◌, ◌/◌, ◌%◌, ◌<◌, ◌≤◌, min, Bool, true, false, cond, not, ◌&&◌, ◌||◌, ltb, ◌⊎◌, List, length, get_or, drop, set, replicate, sym, refl, ap, ◌∙◌, subst, ap₂, inl, inr, ⊎_elim, arith}
 use Rattle.std.proofs.lemmas.List.{get_or-set_same, get_or-set_other, length-set, get_or_append_left, get_or-replicate, length-replicate, length-append, length-drop}
 use Rattle.std.proofs.lemmas.Bool.{cases_Bool, cases_eq, both_ways}
 use Rattle.model.specs.Facts.{Facts, possible, placed, fact_word}
@@ -8,7 +8,7 @@ use Rattle.model.proofs.Counting.{size-put, size-drop, size_none}
 use Rattle.list.specs.declared.list.FactList.{FactList}
 use Rattle.list.specs.Words.{among, listed, room, Apart, FactWords, Free, without, free, cleared, written, erased, used_words}
 use Rattle.list.proofs.Places.{place_is, used_is}
-use Rattle.list.proofs.Listings.{Within, among_decides, placed_by, found, listed-none, possible-word}
+use Rattle.list.proofs.Listings.{among_decides, placed_by, found, listed-none, possible-word}
 
 -- n of the words are used, as a fact list keeps them
 pub record Sound (ws : List ℕ) (n : ℕ) : Type 0 where

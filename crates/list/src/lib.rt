@@ -1,4 +1,6 @@
 //! The fact list: a store in the caller's words, one word for each fact.
+#![tactic(auto)]
+
 pub mod kept;
 pub mod list;
 pub mod store;

@@ -3,10 +3,10 @@ use Rattle.std.proofs.Common.{◌≡◌, ℕ, ◌<◌, Bool, true, false, not, �
 use Rattle.bits.specs.Total.{tally}
 use Rattle.bits.proofs.Totals.{tally_less}
 use Rattle.model.specs.Facts.{Facts, OnlyPossible}
-use Rattle.model.specs.Sides.{under, under_sort}
+use Rattle.model.specs.Sides.{under_sort}
 use Rattle.model.specs.Chains.{Chain, one, more, Below}
 use Rattle.model.specs.declared.side.Side.{Side}
-use Rattle.model.proofs.Possible.{Parts, parts}
+use Rattle.model.proofs.Possible.{parts}
 
 -- a set with all that is directly below the top, and all that is directly below a member, has all that is below the top
 pub closed : (pair : ℕ → ℕ → Bool) (member : ℕ → Bool) (top : ℕ) → ((x : ℕ) → pair x top ≡ true → member x ≡ true)

@@ -1,11 +1,11 @@
 -- The size of a set: how one fact changes it, and its bounds.
-use Rattle.std.proofs.Common.{◌≡◌, ℕ, zero, suc, ◌+◌, ◌*◌, ◌<◌, ◌≤◌, Bool, true, false, ◌&&◌, ◌||◌, eqb, ltb, leb, sym, refl, ap, ◌∙◌, ap₂, inl, inr, ⊎_elim, arith}
-use Rattle.std.proofs.lemmas.Bool.{ne_eqb, and_left, and_right, cases_Bool, cases_lt, or_from, lt-leb, both_ways}
-use Rattle.bits.specs.Total.{total, unit, tally}
+use Rattle.std.proofs.Common.{◌≡◌, ℕ, suc, ◌+◌, ◌<◌, ◌≤◌, Bool, true, false, ◌&&◌, eqb, ap, ◌∙◌, ⊎_elim, arith}
+use Rattle.std.proofs.lemmas.Bool.{ne_eqb, and_left, and_right, cases_Bool}
+use Rattle.bits.specs.Total.{total, unit}
 use Rattle.bits.proofs.Totals.{total-same, total-at, total-most, tally-most, total-none, total_front}
-use Rattle.model.specs.Facts.{Facts, OnlyPossible, possible, same, placed, nothing}
+use Rattle.model.specs.Facts.{Facts, possible, same, placed}
 use Rattle.model.specs.Sizes.{row_size, sort_size, size}
-use Rattle.model.proofs.Possible.{Parts, parts, whole}
+use Rattle.model.proofs.Possible.{parts}
 use Rattle.model.proofs.Sets.{placed_here, placed_off}
 
 module _ (S R : Facts) (s x y : ℕ) (hs : s < 7) (hx : x < 64) (hy : y < 64)

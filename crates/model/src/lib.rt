@@ -1,4 +1,6 @@
 //! The organisational model: facts, what reads them, what stores them, and chains of pairs.
+#![tactic(auto)]
+
 pub mod chains;
 pub mod fact;
 pub mod reading;

@@ -1,9 +1,9 @@
 -- How many are in a set.
-use Rattle.std.proofs.Common.{◌≡◌, ℕ, ◌^◌, ◌<◌, ◌≤◌, Bool, true, false, not, ◌&&◌, eqb, refl, ap, ◌∙◌, arith}
+use Rattle.std.proofs.Common.{◌≡◌, ℕ, ◌^◌, ◌<◌, ◌≤◌, Bool, true, false, not, ◌&&◌, eqb, refl, ap, arith}
 use Rattle.std.proofs.lemmas.Bool.{and_right, eq-eqb, ne_eqb}
 use Rattle.bits.specs.Bit.{bit}
 use Rattle.bits.specs.Total.{tally}
-use Rattle.bits.proofs.Totals.{tally_less, tally-most}
+use Rattle.bits.proofs.Totals.{tally_less}
 use Rattle.bits.proofs.Laws.{bit_below}
 
 -- with somebody in it, at least one

@@ -1,5 +1,5 @@
 -- What a preview tells: a rule's people as they would be, against those of the released rule.
-use Rattle.std.specs.Prelude.{◌≡◌, ℕ, ℤ, pos, negsuc, ◌-ℤ◌, ◌≤ℤ◌, Decides}
+use Rattle.std.specs.Prelude.{◌≡◌, ℕ, pos, negsuc, ◌-ℤ◌, ◌≤ℤ◌, Decides}
 use Rattle.bits.specs.Bit.{bit}
 use Rattle.bits.specs.Total.{tally}
 use Rattle.bits.specs.declared.Bits.{Bits}

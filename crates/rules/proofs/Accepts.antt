@@ -1,17 +1,17 @@
 -- The lists without fault are the lists of rules.
-use Rattle.std.proofs.Common.{◌≡◌, ℕ, suc, ◌+◌, ◌-◌, ◌<◌, ◌≤◌, Bool, true, false, cond, ◌&&◌, ◌||◌, eqb, ltb, ◌⊎◌, List, [], ◌∷◌, ◌++◌, map, length, take, Some, None, Option, sym, refl, ap, ◌∙◌, subst, inl, inr, ⊎_elim, add-one, arith}
-use Rattle.std.proofs.lemmas.List.{append_assoc, append-nil, length-append, length-map, map-append, length-take}
-use Rattle.std.proofs.lemmas.Bool.{lt-ltb, le-ltb, ltb-true, ltb-false, eqb-true, eq-eqb, cond-true, cond-false, and_parts, and_from, true≢false}
+use Rattle.std.proofs.Common.{◌≡◌, ℕ, ◌+◌, ◌-◌, ◌≤◌, Bool, true, false, cond, ◌&&◌, eqb, ltb, List, [], ◌∷◌, ◌++◌, map, length, Some, None, Option, sym, refl, ap, ◌∙◌, subst, add-one, arith}
+use Rattle.std.proofs.lemmas.List.{append_assoc, append-nil, length-append, length-map, length-take}
+use Rattle.std.proofs.lemmas.Bool.{lt-ltb, le-ltb, ltb-true, ltb-false, eqb-true, cond-true, cond-false, and_parts, and_from, true≢false}
 use Rattle.rules.specs.declared.node.Node.{Node}
 use Rattle.rules.specs.declared.node.Node.TheVariants.{Is, Not, And, Or}
 use Rattle.rules.specs.declared.bytes.NodeBytes.{NodeBytes}
 use Rattle.rules.specs.declared.fault.Fault.{Fault}
 use Rattle.rules.specs.declared.fault.Fault.TheVariants.{Length, Field, Shape}
 use Rattle.rules.specs.declared.rule.Rule.{Rule}
-use Rattle.rules.specs.Trees.{Tree, is, isnt, both, either, nodes, operator, InRange}
-use Rattle.rules.specs.Bytes.{allowed, node_of, node_bytes, node_in_range, BytesExact}
+use Rattle.rules.specs.Trees.{Tree, is, isnt, both, either, nodes, InRange}
+use Rattle.rules.specs.Bytes.{allowed, node_of, node_bytes, node_in_range}
 use Rattle.rules.specs.Scan.{bad_field, bad_shape, or_else, fault_of, no_fault, nodes_in_range, one_rule, ListsARule, AcceptsRules}
-use Rattle.rules.specs.Rules.{rule_nodes, rule_tree, trees, first_tree, IsTree, RulesAreTrees}
+use Rattle.rules.specs.Rules.{rule_nodes, rule_tree, trees, first_tree, RulesAreTrees}
 use Rattle.rules.proofs.Coding.{bytes_exact}
 use Rattle.rules.proofs.Parsed.{trees-whole}
 

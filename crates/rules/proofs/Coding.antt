@@ -1,5 +1,5 @@
 -- Bytes and nodes are the same where both are allowed.
-use Rattle.std.proofs.Common.{◌≡◌, ℕ, zero, suc, ◌<◌, Bool, true, false, cond, ◌&&◌, ◌||◌, eqb, ltb, ◌⊎◌, sym, refl, ap, ◌∙◌, inl, inr, ⊎_elim, arith}
+use Rattle.std.proofs.Common.{◌≡◌, ℕ, zero, suc, ◌<◌, Bool, true, false, ◌&&◌, eqb, ltb, ◌⊎◌, sym, refl, ap, ◌∙◌, inl, inr, ⊎_elim, arith}
 use Rattle.std.proofs.lemmas.Bool.{ltb-true, lt-ltb, eqb-true, and_parts, and_from, or_cases, or_left, true≢false}
 use Rattle.model.specs.declared.side.Side.TheVariants.{Role, Unit}
 use Rattle.rules.specs.declared.node.Leaf.{Leaf}
@@ -7,7 +7,7 @@ use Rattle.rules.specs.declared.node.Leaf.TheVariants.{Actor, Group}
 use Rattle.rules.specs.declared.node.Node.{Node}
 use Rattle.rules.specs.declared.node.Node.TheVariants.{Is, Not, And, Or}
 use Rattle.rules.specs.declared.bytes.NodeBytes.{NodeBytes}
-use Rattle.rules.specs.Trees.{number_of, in_range}
+use Rattle.rules.specs.Trees.{in_range}
 use Rattle.rules.specs.Bytes.{leaf_bytes, node_bytes, leaf_allowed, operator_allowed, allowed, leaf_of, node_of, node_in_range, BytesExact}
 
 abbrev make : ℕ → ℕ → ℕ → ℕ → NodeBytes

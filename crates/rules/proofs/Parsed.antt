@@ -2,9 +2,9 @@
 use Rattle.std.proofs.Common.{◌≡◌, List, [], ◌∷◌, ◌++◌, sym, refl, ap, ◌∙◌}
 use Rattle.std.proofs.lemmas.List.{append_assoc, append-nil}
 use Rattle.rules.specs.declared.node.Node.{Node}
-use Rattle.rules.specs.declared.node.Node.TheVariants.{Is, Not, And, Or}
+use Rattle.rules.specs.declared.node.Node.TheVariants.{And, Or}
 use Rattle.rules.specs.Trees.{Tree, is, isnt, both, either, nodes, OneTree}
-use Rattle.rules.specs.Rules.{grown, trees, paired}
+use Rattle.rules.specs.Rules.{grown, trees}
 
 -- a tree's nodes leave that tree on top of what was there
 pub trees_of : (t : Tree) (rest : List Node) (ts : List Tree) → trees ts (nodes t ++ rest) ≡ trees (t ∷ ts) rest

@@ -1,5 +1,5 @@
 -- Slots of a book.
-use Rattle.std.proofs.Common.{◌≡◌, ℕ, zero, suc, Bool, true, false, cond, get_or, replicate, Some, None, Option, refl}
+use Rattle.std.proofs.Common.{◌≡◌, ℕ, zero, suc, Bool, true, false, cond, get_or, replicate, None, Option, refl}
 use Rattle.rules.specs.declared.rule.Rule.{Rule}
 
 abbrev empty : Option Rule

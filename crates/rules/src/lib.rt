@@ -1,4 +1,6 @@
 //! Access rules: node lists, the rules that they are, and the book that keeps them.
+#![tactic(auto)]
+
 pub mod book;
 pub mod bytes;
 pub mod edit;

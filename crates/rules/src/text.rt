@@ -75,7 +75,7 @@ fn is_compound(tree: &[Node]) -> bool
 
 // Writes a tree, given by its nodes, in parentheses where they are wanted.
 fn show<W: fmt::Write>(tree: &[Node], parens: bool, f: &mut fmt::Formatter<W>) -> fmt::Result
-    ensures { OfTree tree.now (λ t. WritesOnOk write_str_gives f.old result (in_parens parens (tree_text t)) f.new) }
+    ensures { OfTree tree.now (λ t. WritesOnOk W.write_str_gives f.old result (in_parens parens (tree_text t)) f.new) }
 {
     if parens {
         f.write_str("(")?;

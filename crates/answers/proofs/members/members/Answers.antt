@@ -1,4 +1,4 @@
-use Rattle.std.proofs.Common.{◌≡◌, ℕ, ◌<◌, true, ◌||◌, ◌⊎◌, sym, refl, ap, ◌∙◌, subst, inl, inr, ⊎_elim}
+use Rattle.std.proofs.Common.{◌≡◌, ℕ, true, sym, refl, ap, ◌∙◌, subst, inl, inr, ⊎_elim}
 use Rattle.std.proofs.lemmas.Bool.{or_cases, or_left, or_right}
 use Rattle.model.specs.Sides.{has}
 use Rattle.bits.specs.Bit.{bit}
@@ -12,7 +12,7 @@ loop-below-smaller g c =
     let x = c.in-Some.below in
     let in_it = c.in-Some.ensures.0 in
     taken_less (bit c.loop-below.rest.word) (bit c.without-rest.result.word) x c.without-rest.ensures 64
-    (below-number F c.args.side c.all-below-rest.ensures.possible (c.loop-below.invariant.2 x in_it)) in_it
+    (below-number F c.args.side c.all_below-rest.ensures.possible (c.loop-below.invariant.2 x in_it)) in_it
 
 pub loop-below-preserved : goal.loop-below-preserved
 loop-below-preserved g c =
@@ -22,7 +22,7 @@ loop-below-preserved g c =
     let found = bit c.loop-below.found.word in
     let row = bit c.row.result.word in
     let inv = c.loop-below.invariant in
-    let is : (a : ℕ) → row a ≡ has F k a m = λ a. c.row.ensures.value a ∙ ap (λ (s : ℕ). F s a m) c.has-sort-in-Some.ensures in
+    let is : (a : ℕ) → row a ≡ has F k a m = λ a. c.row.ensures.value a ∙ ap (λ (s : ℕ). F s a m) c.has_sort-in-Some.ensures in
     let at_hand = inv.2 m c.in-Some.ensures.0 in (
       λ a h. ⊎_elim (inv.0 a) (λ e. inr (refl, (m, sym (is a) ∙ e, at_hand))) (or_cases (found a) (row a) (sym (c.or-found.ensures a) ∙ h)),
       λ a h. c.or-found.ensures a ∙ or_left (found a) (row a) (inv.1 a h),

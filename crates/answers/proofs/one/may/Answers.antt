@@ -1,4 +1,4 @@
-use Rattle.std.proofs.Common.{sym, ◌∙◌}
+use Rattle.std.proofs.Common.{sym}
 use Rattle.std.proofs.lemmas.Bool.{true≢false, both_ways}
 use Rattle.rules.specs.Rules.{rule_tree}
 use Rattle.answers.proofs.Standing.{qualified_stand}

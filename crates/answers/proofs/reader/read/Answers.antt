@@ -1,4 +1,4 @@
-use Rattle.std.proofs.Common.{◌≡◌, ℕ, ◌+◌, ◌≤◌, Bool, eqb, List, [], ◌∷◌, length, get_or, take, drop, None, sym, ap, ◌∙◌, subst, arith}
+use Rattle.std.proofs.Common.{◌≡◌, ℕ, ◌+◌, ◌≤◌, eqb, List, [], ◌∷◌, length, get_or, take, drop, None, sym, ap, ◌∙◌, subst, arith}
 use Rattle.std.proofs.lemmas.List.{take_more, take_all, drop_all}
 use Rattle.std.proofs.lemmas.Bool.{eqb-true}
 use Rattle.rules.specs.declared.node.Leaf.TheVariants.{Actor}
@@ -6,13 +6,13 @@ use Rattle.rules.specs.declared.node.Node.{Node}
 use Rattle.rules.specs.declared.node.Node.TheVariants.{Is}
 use Rattle.rules.specs.declared.fault.Fault.TheVariants.{Shape}
 use Rattle.rules.specs.Trees.{Tree}
-use Rattle.rules.specs.Rules.{rule_nodes, rule_tree, trees, grown}
+use Rattle.rules.specs.Rules.{rule_tree, trees, grown}
 use Rattle.rules.specs.Scan.{bad_shape}
 use Rattle.rules.proofs.Accepts.{rule_shape, rule_short, rule-trees, guard}
 use Rattle.rules.proofs.Parsed.{trees-more}
-use Rattle.answers.specs.Stack.{Answers, top_down, height}
+use Rattle.answers.specs.Stack.{Answers, top_down}
 use Rattle.answers.proofs.Stacks.{bottom}
-use Rattle.answers.proofs.Rooms.{Fits, fits}
+use Rattle.answers.proofs.Rooms.{fits}
 use Rattle.answers.proofs.reader.read.Goals as goal
 
 abbrev zero-node : Node

@@ -1,11 +1,10 @@
-use Rattle.std.proofs.Common.{◌≡◌, ℕ, ◌+◌, ◌-◌, ◌<◌, ◌≤◌, Bool, true, false, not, ◌&&◌, ◌||◌, List, ◌∷◌, length, set, Decides, sym, refl, ap, ◌∙◌, subst, arith}
+use Rattle.std.proofs.Common.{◌≡◌, ◌+◌, ◌-◌, ◌<◌, ◌≤◌, Bool, not, ◌&&◌, length, set, Decides, sym, ap, ◌∙◌, subst, arith}
 use Rattle.std.proofs.lemmas.Bool.Decides.{Decides-at, Decides-and, Decides-not}
 use Rattle.model.specs.Sides.{actor_stands}
-use Rattle.rules.specs.Trees.{Tree, is, isnt, both, either, operator}
+use Rattle.rules.specs.Trees.{is, isnt, both, either, operator}
 use Rattle.rules.specs.Rules.{grown}
 use Rattle.rules.specs.declared.node.Node.{Node}
-use Rattle.rules.specs.declared.node.Node.TheVariants.{Is, Not, And, Or}
-use Rattle.answers.specs.Qualify.{Qualifies, InLeaf}
+use Rattle.answers.specs.Qualify.{Qualifies}
 use Rattle.answers.specs.Stack.{Answers, top_down, height}
 use Rattle.answers.proofs.Stacks.{leaf-step, pair_step, meets, joins, truth}
 use Rattle.answers.proofs.reader.step.Goals as goal

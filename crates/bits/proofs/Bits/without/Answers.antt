@@ -1,4 +1,4 @@
-use Rattle.std.proofs.Common.{◌≡◌, false, not, ◌&&◌, eqb, sym, ap, ◌∙◌, subst, arith}
+use Rattle.std.proofs.Common.{arith}
 use Rattle.bits.proofs.Laws.{bit-without, bit_absent}
 use Rattle.bits.proofs.Bits.without.Goals as goal
 

@@ -5,8 +5,8 @@ use Rattle.board.specs.Rows.{marked}
 use Rattle.board.proofs.Counts.{few, ones_more, ones_size, ones_at}
 use Rattle.board.proofs.BoardStore.count.Goals as goal
 
-pub overflow-add-n : goal.overflow-add-n
-overflow-add-n c = omega (arith, few c.args.self.now.rows c.loop-row.row-index)
+pub overflow_add-n : goal.overflow_add-n
+overflow_add-n c = omega (arith, few c.args.self.now.rows c.loop-row.row-index)
 
 pub loop-row-init : goal.loop-row-init
 unfolding total

@@ -8,7 +8,7 @@ returns c =
     let S = marked c.args.self.now.rows in
     let f = c.args.fact in
     record {
-      answer = sym (takes-possible S f.sort f.x f.y (sym c.if-not-is-possible.ensures));
+      answer = sym (takes-possible S f.sort f.x f.y (sym c.if-not-is_possible.ensures));
       set = c.write.ensures;
       words = either_way (not (S f.sort f.x f.y)) [];
       capacity = refl;

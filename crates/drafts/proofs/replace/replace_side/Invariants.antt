@@ -1,4 +1,4 @@
-use Rattle.std.proofs.Common.{◌≡◌, ℕ, ◌<◌}
+use Rattle.std.proofs.Common.{◌≡◌, ℕ}
 use Rattle.board.specs.Holding.{facts_of}
 use Rattle.drafts.proofs.Replaced.{so_far}
 use Rattle.drafts.proofs.replace.replace_side.Given as goal

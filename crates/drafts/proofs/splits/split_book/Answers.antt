@@ -15,9 +15,9 @@ loop-slot-init c = none_yet (the_edit c.args.step) (slots_of c.args.book.now)
 
 pub loop-slot-preserved : goal.loop-slot-preserved
 loop-slot-preserved c =
-    one_more (the_edit c.args.step) (slots_of c.args.book.now) (slots_of c.loop-slot.book) (slots_of c.split-slot.new.book) c.loop-slot.slot
+    one_more (the_edit c.args.step) (slots_of c.args.book.now) (slots_of c.loop-slot.book) (slots_of c.split_slot.new.book) c.loop-slot.slot
     c.loop-slot.invariant
-    c.split-slot.ensures
+    c.split_slot.ensures
 
 pub returns : goal.returns
 returns c i =

@@ -8,7 +8,7 @@ use Rattle.engine.specs.Checking.{ValidAt}
 use Rattle.engine.proofs.checking.first_invalid.Goals as goal
 
 pub loop-slot-preserved : goal.loop-slot-preserved
-loop-slot-preserved c = below_more (ValidAt (state_of c.args.draft.now)) c.loop-slot.slot c.loop-slot.invariant c.in-default.ensures
+loop-slot-preserved c = below_more (ValidAt (state_of c.args.draft.now)) c.loop-slot.slot c.loop-slot.invariant c.in_default.ensures
 
 -- a book has no rule past slot 31
 no_rule_past : (b : Book) (i : ℕ) → 32 ≤ i → slots_of b i ≡ None

@@ -1,4 +1,4 @@
-use Rattle.std.proofs.Common.{◌≡◌, ℕ, List, set, ap, ◌∙◌, arith}
+use Rattle.std.proofs.Common.{ℕ, List, set, ap, ◌∙◌, arith}
 use Rattle.std.proofs.lemmas.List.Edits.{fill_more}
 use Rattle.list.specs.Words.{free}
 use Rattle.list.proofs.words.clear.Goals as goal

@@ -1,4 +1,4 @@
-use Rattle.std.proofs.Common.{◌≡◌, ℕ, ◌+◌, ◌/◌, ◌%◌, Bool, false, ◌||◌, get_or, sym, ap, ◌∙◌, ap₂, arith}
+use Rattle.std.proofs.Common.{◌≡◌, ℕ, ◌+◌, false, ◌||◌, sym, ap, ◌∙◌, ap₂, arith}
 use Rattle.bits.specs.Bit.{bit}
 use Rattle.list.specs.Words.{listed}
 use Rattle.list.proofs.Listings.{listed-none, only_possible}

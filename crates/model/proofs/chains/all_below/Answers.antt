@@ -1,7 +1,7 @@
-use Rattle.std.proofs.Common.{◌≡◌, ℕ, ◌<◌, true, false, not, ◌&&◌, ◌||◌, eqb, ltb, sym, ap, ◌∙◌, subst, ⊎_elim, arith}
+use Rattle.std.proofs.Common.{◌≡◌, ℕ, ◌<◌, true, false, not, ◌&&◌, eqb, ltb, sym, ap, ◌∙◌, subst, ⊎_elim, arith}
 use Rattle.std.proofs.lemmas.Bool.{and_parts, and_from, or_cases, or_left, or_right, and_left, cases_Bool, both_ways, eqb-true, eq-eqb, ne_eqb, lt-ltb, not-true, not_from_false}
 use Rattle.bits.specs.Bit.{bit}
-use Rattle.model.specs.Chains.{Below, one, more}
+use Rattle.model.specs.Chains.{one, more}
 use Rattle.model.specs.Sides.{under, under_sort}
 use Rattle.model.proofs.Closure.{closed, below-number, fewer, or-none}
 use Rattle.model.proofs.chains.all_below.Goals as goal
@@ -21,7 +21,7 @@ next g c =
     (p.0, not-true (bit c.loop-y.done.word y) p.1)
 
 row : (g : _) (c : goal.After-with-done g) (x : ℕ) → bit c.row.result.word x ≡ under (g.R.Reading.held c.args.reading.now) c.args.side x c.in-Some.y
-row g c x = c.row.ensures.value x ∙ ap (λ (s : ℕ). g.R.Reading.held c.args.reading.now s x c.in-Some.y) c.under-sort-in-Some.ensures
+row g c x = c.row.ensures.value x ∙ ap (λ (s : ℕ). g.R.Reading.held c.args.reading.now s x c.in-Some.y) c.under_sort-in-Some.ensures
 
 pub loop-y-smaller : goal.loop-y-smaller
 loop-y-smaller g c =
@@ -63,6 +63,6 @@ returns g c =
     all_done : (m : ℕ) → bit c.loop-y.found.word m ≡ true → bit c.loop-y.done.word m ≡ true
     all_done m e =
         ⊎_elim (λ q. q)
-        (λ q. absurd (both_ways (bit c.minus.result.word m) (c.in-default.ensures m)
+        (λ q. absurd (both_ways (bit c.minus.result.word m) (c.in_default.ensures m)
         (c.minus.ensures m ∙ and_from (bit c.loop-y.found.word m) (not (bit c.loop-y.done.word m)) e (not_from_false (bit c.loop-y.done.word m) q))))
         (cases_Bool (bit c.loop-y.done.word m))

@@ -1,4 +1,4 @@
-use Rattle.std.proofs.Common.{◌^◌, ◌<◌, ◌≤◌, arith, rules}
+use Rattle.std.proofs.Common.{◌^◌, ◌<◌, arith, rules}
 use Rattle.std.proofs.lemmas.Int.{ints}
 use Rattle.answers.specs.Qualify.{Qualifies}
 use Rattle.rules.specs.Rules.{rule_tree}
@@ -17,8 +17,8 @@ returns g c =
       people = c.who-set.ensures;
       effect =
           effect-told (bit new) (bit old)
-          (Qualifies (g.N.Reading.held c.args.new.now) (rule_tree c.args.new-rule.now))
-          (Qualifies (g.O.Reading.held c.args.old.now) (rule_tree c.args.old-rule.now))
+          (Qualifies (g.N.Reading.held c.args.new.now) (rule_tree c.args.new_rule.now))
+          (Qualifies (g.O.Reading.held c.args.old.now) (rule_tree c.args.old_rule.now))
           c.who-set.ensures c.who-released.ensures c.between.result c.between.ensures;
       released = c.who-released.result;
       were = c.who-released.ensures;

@@ -4,8 +4,8 @@ use Rattle.bits.specs.Bit.{bit}
 use Rattle.bits.proofs.Totals.{tally-most}
 use Rattle.previews.proofs.preview.heads.Goals as goal
 
-pub overflow-cast-result : goal.overflow-cast-result
-overflow-cast-result c = omega (arith, ints, c.count.ensures, tally-most (bit c.args.set.word) 64)
+pub overflow_cast-result : goal.overflow_cast-result
+overflow_cast-result c = omega (arith, ints, c.count.ensures, tally-most (bit c.args.set.word) 64)
 
 pub returns : goal.returns
 returns c =

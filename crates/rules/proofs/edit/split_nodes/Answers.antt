@@ -22,8 +22,8 @@ returns-then-len-pieces-gt31 c =
 
 pub loop-node-preserved : goal.loop-node-preserved
 loop-node-preserved c =
-    let pieces : c.copy-from-slice.new.self ≡ take c.split-pieces.result.len c.split-pieces.result.nodes =
-    c.copy-from-slice.ensures.after ∙ ap (λ (n : ℕ). take n c.split-pieces.result.nodes) (sub-zero c.split-pieces.result.len) in (
+    let pieces : c.copy_from_slice.new.self ≡ take c.split-pieces.result.len c.split-pieces.result.nodes =
+    c.copy_from_slice.ensures.after ∙ ap (λ (n : ℕ). take n c.split-pieces.result.nodes) (sub-zero c.split-pieces.result.len) in (
       search (rules, overwrites),
       search rules,
       take-put_mid c.loop-node.len _ c.loop-node.nodes _ _ (search rules) (search rules)

@@ -8,14 +8,14 @@ use Rattle.rules.proofs.text.+show.Goals as goal
 pub returns-then-parens : goal.returns-then-parens
 returns-then-parens g t c = λ u e p ok.
     let inner = tree_text u in
-    let x = c.in-ok-write-str.ensures.writes p (refl {a = true}) in
-    let y = c.in-ok-show.ensures u e x.plain (refl {a = true}) in
-    put_three g.W.Write.write_str_gives c.args.f.now c.write-str.new.self c.show.new.f c.write-str-then-parens.new.self
+    let x = c.in_ok-write_str.ensures.writes p (refl {a = true}) in
+    let y = c.in_ok-show.ensures u e x.plain (refl {a = true}) in
+    put_three g.W.Write.write_str_gives c.args.f.now c.write_str.new.self c.show.new.f c.write_str-then-parens.new.self
     (codes "(") inner (codes ")") (in_parens c.args.parens inner) (ap (λ (b : Bool). in_parens b inner) (sym c.if-parens.true))
-    x y (c.write-str-then-parens.ensures.writes y.plain ok)
+    x y (c.write_str-then-parens.ensures.writes y.plain ok)
 
-pub returns-in-default : goal.returns-in-default
-returns-in-default g t c = λ u e p ok. never_empty u (omega (arith, ap length e, c.in-default.ensures.cases))
+pub returns-in_default : goal.returns-in_default
+returns-in_default g t c = λ u e p ok. never_empty u (omega (arith, ap length e, c.in_default.ensures.cases))
 
 pub returns-in-Is : goal.returns-in-Is
 returns-in-Is g t c = λ u e p ok.
@@ -33,38 +33,38 @@ returns-in-Not g t c = λ u e p ok.
     let text = bare u (codes "NOT " ++ leaf_text leaf) c.args.parens c.if-parens.false (isnt_text u node leaf ends.1 c.in-Not.is) in
     has_written_of_eq g.W.Write.write_str_gives c.args.f.now (codes "NOT " ++ leaf_text leaf) (in_parens c.args.parens (tree_text u)) c.write-in-Not.new.self text (c.write-in-Not.ensures.writes p ok)
 
-pub returns-in-ok-write-str-2 : goal.returns-in-ok-write-str-2
-returns-in-ok-write-str-2 g t c = λ u e p ok.
+pub returns-in_ok-write_str-in-And : goal.returns-in_ok-write_str-in-And
+returns-in_ok-write_str-in-And g t c = λ u e p ok.
     let node = c.in-Some.node.now in
     let parts = c.in-Some.parts.now in
-    let l = c.ends-in.result in
-    let r = c.is-compound.result in
+    let l = c.ends_in.result in
+    let r = c.is_compound.result in
     let ends = ended u c.args.tree.now parts node e c.in-Some.ensures.cases.0 in
     let two = is-both u node ends.1 c.in-And.is in
     let a = two.0 in
     let b = two.1 in
-    let cut = parted a b parts c.split-at.result.0.now c.split-at.result.1.now c.begin.result (ap below (sym two.2) ∙ ends.0) c.begin.ensures.begins c.split-at.ensures.front c.split-at.ensures.by_index.0 in
-    let x = c.in-ok-show-2.ensures a cut.0 p (refl {a = true}) in
-    let y = c.in-ok-write-str-2.ensures.writes x.plain (refl {a = true}) in
-    put_three g.W.Write.write_str_gives c.args.f.now c.show-in-And.new.f c.write-str-in-And.new.self c.show-in-And-2.new.f
+    let cut = parted a b parts c.split_at.result.0.now c.split_at.result.1.now c.begin.result (ap below (sym two.2) ∙ ends.0) c.begin.ensures.begins c.split_at.ensures.front c.split_at.ensures.by_index.0 in
+    let x = c.in_ok-show-in-And.ensures a cut.0 p (refl {a = true}) in
+    let y = c.in_ok-write_str-in-And.ensures.writes x.plain (refl {a = true}) in
+    put_three g.W.Write.write_str_gives c.args.f.now c.show-in-And.new.f c.write_str-in-And.new.self c.show-in-And-2.new.f
     (in_parens l (tree_text a)) (codes " AND ") (in_parens r (tree_text b)) (in_parens c.args.parens (tree_text u))
-    (bare u _ c.args.parens c.if-parens.false (both_text u a b l r two.2 (c.ends-in.ensures a cut.0) (c.is-compound.ensures b cut.1)))
+    (bare u _ c.args.parens c.if-parens.false (both_text u a b l r two.2 (c.ends_in.ensures a cut.0) (c.is_compound.ensures b cut.1)))
     x y (c.show-in-And-2.ensures b cut.1 y.plain ok)
 
-pub returns-in-ok-write-str-3 : goal.returns-in-ok-write-str-3
-returns-in-ok-write-str-3 g t c = λ u e p ok.
+pub returns-in_ok-write_str-in-Or : goal.returns-in_ok-write_str-in-Or
+returns-in_ok-write_str-in-Or g t c = λ u e p ok.
     let node = c.in-Some.node.now in
     let parts = c.in-Some.parts.now in
-    let l = c.ends-in-in-Or.result in
-    let r = c.is-compound-in-Or.result in
+    let l = c.ends_in-in-Or.result in
+    let r = c.is_compound-in-Or.result in
     let ends = ended u c.args.tree.now parts node e c.in-Some.ensures.cases.0 in
     let two = is-either u node ends.1 c.in-Or.is in
     let a = two.0 in
     let b = two.1 in
-    let cut = parted a b parts c.split-at.result.0.now c.split-at.result.1.now c.begin.result (ap below (sym two.2) ∙ ends.0) c.begin.ensures.begins c.split-at.ensures.front c.split-at.ensures.by_index.0 in
-    let x = c.in-ok-show-3.ensures a cut.0 p (refl {a = true}) in
-    let y = c.in-ok-write-str-3.ensures.writes x.plain (refl {a = true}) in
-    put_three g.W.Write.write_str_gives c.args.f.now c.show-in-Or.new.f c.write-str-in-Or.new.self c.show-in-Or-2.new.f
+    let cut = parted a b parts c.split_at.result.0.now c.split_at.result.1.now c.begin.result (ap below (sym two.2) ∙ ends.0) c.begin.ensures.begins c.split_at.ensures.front c.split_at.ensures.by_index.0 in
+    let x = c.in_ok-show-in-Or.ensures a cut.0 p (refl {a = true}) in
+    let y = c.in_ok-write_str-in-Or.ensures.writes x.plain (refl {a = true}) in
+    put_three g.W.Write.write_str_gives c.args.f.now c.show-in-Or.new.f c.write_str-in-Or.new.self c.show-in-Or-2.new.f
     (in_parens l (tree_text a)) (codes " OR ") (in_parens r (tree_text b)) (in_parens c.args.parens (tree_text u))
-    (bare u _ c.args.parens c.if-parens.false (either_text u a b l r two.2 (c.ends-in-in-Or.ensures a cut.0) (c.is-compound-in-Or.ensures b cut.1)))
+    (bare u _ c.args.parens c.if-parens.false (either_text u a b l r two.2 (c.ends_in-in-Or.ensures a cut.0) (c.is_compound-in-Or.ensures b cut.1)))
     x y (c.show-in-Or-2.ensures b cut.1 y.plain ok)

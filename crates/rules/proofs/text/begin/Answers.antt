@@ -8,14 +8,14 @@ loop-wanted-init c =
     let ns = c.args.list.now in
     (omega arith, omega arith, λ front t e. (t, front, refl, e ∙ sym (take_all (length ns) ns (omega arith))))
 
-pub loop-wanted-preserved-then-is-operator : goal.loop-wanted-preserved-then-is-operator
-loop-wanted-preserved-then-is-operator c =
+pub loop-wanted-preserved-then-is_operator : goal.loop-wanted-preserved-then-is_operator
+loop-wanted-preserved-then-is_operator c =
     let ns = c.args.list.now in
     let i = c.loop-wanted.i in
     let k = c.loop-wanted.wanted in (
       omega arith,
       omega arith,
-      λ front t e. turn_operator front ns i k _ c.if-i-gt0.true c.loop-wanted.invariant.0 c.loop-wanted-test.true (sym c.if-is-operator.ensures) (c.loop-wanted.invariant.2 front t e),
+      λ front t e. turn_operator front ns i k _ c.if-i-gt0.true c.loop-wanted.invariant.0 c.loop-wanted-test.true (sym c.if-is_operator.ensures) (c.loop-wanted.invariant.2 front t e),
     )
 
 pub loop-wanted-preserved : goal.loop-wanted-preserved
@@ -25,7 +25,7 @@ loop-wanted-preserved c =
     let k = c.loop-wanted.wanted in (
       omega arith,
       omega arith,
-      λ front t e. turn_leaf front ns i k _ c.if-i-gt0.true c.loop-wanted.invariant.0 c.loop-wanted-test.true (sym c.if-is-operator.ensures) (c.loop-wanted.invariant.2 front t e),
+      λ front t e. turn_leaf front ns i k _ c.if-i-gt0.true c.loop-wanted.invariant.0 c.loop-wanted-test.true (sym c.if-is_operator.ensures) (c.loop-wanted.invariant.2 front t e),
     )
 
 pub returns-else-i-gt0 : goal.returns-else-i-gt0

@@ -9,9 +9,9 @@ loop-sort-init g c = (no_sorts _ _, λ l. absurd (omega arith))
 
 pub loop-sort-preserved : goal.loop-sort-preserved
 loop-sort-preserved g c = (
-  sort_more (g.R.Reading.held c.args.from.now) (facts_of c.args.board.now) (facts_of c.loop-sort.board) (facts_of c.load-sort.new.board)
-      c.loop-sort.sort c.loop-sort.invariant.0 c.load-sort.ensures.value,
-  λ _. c.load-sort.ensures.possible,
+  sort_more (g.R.Reading.held c.args.from.now) (facts_of c.args.board.now) (facts_of c.loop-sort.board) (facts_of c.load_sort.new.board)
+      c.loop-sort.sort c.loop-sort.invariant.0 c.load_sort.ensures.value,
+  λ _. c.load_sort.ensures.possible,
 )
 
 pub returns : goal.returns

@@ -10,8 +10,8 @@ loop-y-init g c = (no_rows _ _ _, λ l. absurd (omega arith))
 
 pub loop-y-preserved : goal.loop-y-preserved
 loop-y-preserved g c = (
-  row_more (g.R.Reading.held c.args.from.now) (facts_of c.args.board.now) (facts_of c.loop-y.board) (facts_of c.set-row.new.self)
-      c.args.sort c.loop-y.y (bit c.row.result.word) c.row.ensures.possible c.row.ensures.value c.loop-y.invariant.0 c.set-row.ensures,
+  row_more (g.R.Reading.held c.args.from.now) (facts_of c.args.board.now) (facts_of c.loop-y.board) (facts_of c.set_row.new.self)
+      c.args.sort c.loop-y.y (bit c.row.result.word) c.row.ensures.possible c.row.ensures.value c.loop-y.invariant.0 c.set_row.ensures,
   λ _. c.row.ensures.possible,
 )
 
@@ -21,6 +21,6 @@ returns g c =
     let only = c.loop-y.invariant.1 some in
     record {
       value = rows_all (g.R.Reading.held c.args.from.now) (facts_of c.args.board.now) (facts_of c.loop-y.board) c.args.sort c.loop-y.y
-          only (only_possible c.args.board.now.rows) (λ x y p. omega (arith, c.row-count-y-end.ensures.all x y p)) c.loop-y.invariant.0;
+          only (only_possible c.args.board.now.rows) (λ x y p. omega (arith, c.row_count-y-end.ensures.all x y p)) c.loop-y.invariant.0;
       possible = only;
     }

@@ -17,7 +17,7 @@ loop-x-preserved g c =
     let before = content g.S.Reading g.S.Store c.loop-x.store in
     one-more_turn _ c.loop-x.x _ before _ c.loop-x.invariant
     (elim c.if-has.branch [
-      | then-has w ↦ rw w.store-is w.drop-upper.ensures
+      | then-has w ↦ rw w.store-is w.drop_upper.ensures
       | else-has w ↦
           let tested = w.if-has.ensures in
           let out : bit c.lacking-surplus.result.word c.loop-x.x ≡ false = cc in

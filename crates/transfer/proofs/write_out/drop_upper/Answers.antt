@@ -16,11 +16,11 @@ loop-y-preserved g c =
     one-more_turn _ c.loop-y.y _ before _ c.loop-y.invariant
     (elim c.if-not-holds.branch [
       | then-not-holds w ↦
-          let after = w.drop-fact.ensures in
+          let after = w.drop_fact.ensures in
           let tested = w.if-not-holds.ensures.value in
           let out : M c.args.sort c.args.x c.loop-y.y ≡ false = cc in
           rw w.store-is
-          (drop_turn W M c.args.sort c.args.x c.loop-y.y before (content g.S.Reading g.S.Store w.drop-fact.new.self)
+          (drop_turn W M c.args.sort c.args.x c.loop-y.y before (content g.S.Reading g.S.Store w.drop_fact.new.self)
           out after.set after.words after.capacity after.home)
       | else-not-holds w ↦
           let tested = w.if-not-holds.ensures.value in

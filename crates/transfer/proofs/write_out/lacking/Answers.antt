@@ -17,7 +17,7 @@ pub returns : goal.returns
 returns g c =
     let some : 0 < c.loop-y.y = omega arith in
     record {
-      all = λ x y out has. let low = c.row-count-y-end.ensures.all x y ((c.loop-y.invariant.1 some).0 _ _ _ has) in c.loop-y.invariant.0.all x y (omega arith) out has;
+      all = λ x y out has. let low = c.row_count-y-end.ensures.all x y ((c.loop-y.invariant.1 some).0 _ _ _ has) in c.loop-y.invariant.0.all x y (omega arith) out has;
       only = c.loop-y.invariant.0.only;
       possible = c.loop-y.invariant.1 some;
     }

@@ -14,7 +14,7 @@ pub drops-preserved : goal.drops-preserved
 drops-preserved g c =
     let each = each_of_sort (drop_surplus (writing g.S.Store) (g.R.Reading.held c.args.model.now)) in
     let start = content g.S.Reading g.S.Store c.args.store.now in
-    let dropped = c.drop-sort.ensures in (
+    let dropped = c.drop_sort.ensures in (
       one-more_turn _ c.drops.sort _ (content g.S.Reading g.S.Store c.drops.store) _ c.drops.invariant.0 dropped.dropped,
       λ _. ⊎_elim
           (λ (later : 0 < c.drops.sort). c.drops.invariant.1 later)
@@ -29,7 +29,7 @@ pub puts-init : goal.puts-init
 puts-init g c = no_turns _ _
 
 pub puts-preserved : goal.puts-preserved
-puts-preserved g c = one-more_turn _ c.puts.sort _ (content g.S.Reading g.S.Store c.puts.store) _ c.puts.invariant c.put-sort.ensures
+puts-preserved g c = one-more_turn _ c.puts.sort _ (content g.S.Reading g.S.Store c.puts.store) _ c.puts.invariant c.put_sort.ensures
 
 pub returns : goal.returns
 returns g c =

@@ -1,9 +1,8 @@
-use Rattle.std.proofs.Common.{◌≡◌, ℕ, ◌<◌, true, false, ◌&&◌, ◌||◌, eqb, ltb, sym, ap, ◌∙◌, subst, ⊎_elim}
+use Rattle.std.proofs.Common.{◌≡◌, ℕ, ◌<◌, true, ◌&&◌, eqb, ltb, sym, ◌∙◌, subst, ⊎_elim}
 use Rattle.std.proofs.lemmas.Bool.{and_parts, and_from, or_cases, or_right, both_ways, eqb-true, eq-eqb, lt-ltb}
 use Rattle.bits.specs.Bit.{bit}
-use Rattle.model.proofs.Possible.{Parts, parts}
+use Rattle.model.proofs.Possible.{parts}
 use Rattle.rules.specs.declared.node.Leaf.{Leaf}
-use Rattle.rules.specs.declared.node.Leaf.TheVariants.{Actor}
 use Rattle.answers.specs.Qualify.{InLeaf}
 use Rattle.answers.proofs.everyone.EveryoneQuestionBits.leaf.Goals as goal
 

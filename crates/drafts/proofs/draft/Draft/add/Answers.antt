@@ -1,4 +1,4 @@
-use Rattle.std.proofs.Common.{◌≡◌, not, None, sym, ap, ◌∙◌}
+use Rattle.std.proofs.Common.{not, None, sym, ap, ◌∙◌}
 use Rattle.rules.specs.declared.book.Book.{Book}
 use Rattle.drafts.specs.Slots.{slots_of}
 use Rattle.board.specs.Holding.{facts_of}
@@ -12,10 +12,10 @@ pub write-requires : goal.write-requires
 write-requires c =
     let e = c.args.entity in
     let F = facts_of c.args.self.now.board in
-    entity_possible e.kind e.number (passed (not (entity_range e.kind e.number)) (Range 255) (refused_if (F e.kind e.number 0) Standing None) (sym c.judge-add.ensures ∙ c.in-None.is)).0
+    entity_possible e.kind e.number (passed (not (entity_range e.kind e.number)) (Range 255) (refused_if (F e.kind e.number 0) Standing None) (sym c.judge_add.ensures ∙ c.in-None.is)).0
 
 pub returns-in-Some : goal.returns-in-Some
-returns-in-Some c = is-refused _ _ _ c.in-Some.refusal (sym c.judge-add.ensures ∙ c.in-Some.is)
+returns-in-Some c = is-refused _ _ _ c.in-Some.refusal (sym c.judge_add.ensures ∙ c.in-Some.is)
 
 pub returns-in-None : goal.returns-in-None
-returns-in-None c = is_taken _ _ _ _ (sym c.judge-add.ensures ∙ c.in-None.is) c.write.ensures.facts (λ i. ap (λ (b : Book). slots_of b i) c.write.ensures.book)
+returns-in-None c = is_taken _ _ _ _ (sym c.judge_add.ensures ∙ c.in-None.is) c.write.ensures.facts (λ i. ap (λ (b : Book). slots_of b i) c.write.ensures.book)

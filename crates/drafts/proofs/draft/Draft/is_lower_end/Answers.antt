@@ -1,6 +1,6 @@
 use Rattle.std.proofs.Common.{sym, arith}
 use Rattle.std.proofs.lemmas.Bool.{true≢false}
-use Rattle.model.proofs.Possible.{Parts, parts}
+use Rattle.model.proofs.Possible.{parts}
 use Rattle.board.proofs.Marks.{only_possible}
 use Rattle.drafts.proofs.draft.Draft.is_lower_end.Goals as goal
 

@@ -1,4 +1,4 @@
-use Rattle.std.proofs.Common.{◌≡◌, ℕ, Some, None, Option, sym, ap, ◌∙◌, subst}
+use Rattle.std.proofs.Common.{Option, sym, ap, ◌∙◌, subst}
 use Rattle.drafts.specs.declared.refusal.Refusal.{Refusal}
 use Rattle.drafts.specs.declared.refusal.Refusal.TheVariants.{TooLong}
 use Rattle.drafts.specs.Grounds.{first_of, long_refusal, side_of_kind}
@@ -15,12 +15,12 @@ returns-in-Some c =
       first = refused w;
       second = refused w;
       fitting = refused w;
-      verdict = λ shares long d l. ap (λ (v : Option Refusal). first_of v (long_refusal long)) (sym c.in-Some.is ∙ c.judge-parting.ensures.verdict shares d);
+      verdict = λ shares long d l. ap (λ (v : Option Refusal). first_of v (long_refusal long)) (sym c.in-Some.is ∙ c.judge_parting.ensures.verdict shares d);
     }
 
-pub returns-in-Some-long-slot : goal.returns-in-Some-long-slot
-returns-in-Some-long-slot c =
-    let w = TooLong c.in-Some-long-slot.slot in
+pub returns-in-Some-long_slot : goal.returns-in-Some-long_slot
+returns-in-Some-long_slot c =
+    let w = TooLong c.in-Some-long_slot.slot in
     let D = c.args.step in
     let B = slots_of c.args.self.now.book in
     record {
@@ -28,19 +28,19 @@ returns-in-Some-long-slot c =
       second = refused w;
       fitting = refused w;
       verdict = λ shares long d l.
-          ap long_refusal (sym c.in-Some-long-slot.is ∙ lowest-same (side_of_kind D.kind) (parts_in D) B c.long-slot.result long c.long-slot.ensures l)
-          ∙ ap (λ (v : Option Refusal). first_of v (long_refusal long)) (sym c.in-None.is ∙ c.judge-parting.ensures.verdict shares d);
+          ap long_refusal (sym c.in-Some-long_slot.is ∙ lowest-same (side_of_kind D.kind) (parts_in D) B c.long_slot.result long c.long_slot.ensures l)
+          ∙ ap (λ (v : Option Refusal). first_of v (long_refusal long)) (sym c.in-None.is ∙ c.judge_parting.ensures.verdict shares d);
     }
 
-pub returns-in-None-long-slot : goal.returns-in-None-long-slot
-returns-in-None-long-slot c =
+pub returns-in-None-long_slot : goal.returns-in-None-long_slot
+returns-in-None-long_slot c =
     let D = c.args.step in
     let B = slots_of c.args.self.now.book in
     record {
-      first = λ _. c.judge-parting.ensures.first c.in-None.is;
-      second = λ _. c.judge-parting.ensures.second c.in-None.is;
-      fitting = λ _. subst (LowestLong (side_of_kind D.kind) (parts_in D) B) c.in-None-long-slot.is c.long-slot.ensures;
+      first = λ _. c.judge_parting.ensures.first c.in-None.is;
+      second = λ _. c.judge_parting.ensures.second c.in-None.is;
+      fitting = λ _. subst (LowestLong (side_of_kind D.kind) (parts_in D) B) c.in-None-long_slot.is c.long_slot.ensures;
       verdict = λ shares long d l.
-          ap long_refusal (sym c.in-None-long-slot.is ∙ lowest-same (side_of_kind D.kind) (parts_in D) B c.long-slot.result long c.long-slot.ensures l)
-          ∙ ap (λ (v : Option Refusal). first_of v (long_refusal long)) (sym c.in-None.is ∙ c.judge-parting.ensures.verdict shares d);
+          ap long_refusal (sym c.in-None-long_slot.is ∙ lowest-same (side_of_kind D.kind) (parts_in D) B c.long_slot.result long c.long_slot.ensures l)
+          ∙ ap (λ (v : Option Refusal). first_of v (long_refusal long)) (sym c.in-None.is ∙ c.judge_parting.ensures.verdict shares d);
     }

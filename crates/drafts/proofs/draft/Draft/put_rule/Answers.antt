@@ -18,4 +18,4 @@ returns-in-Ok c =
     let accepted : put_verdict slot (fault_of list) ≡ None =
     ap (put_verdict slot) read.0 ∙ ap (λ (b : Bool). refused_if (not b) (Range slot) None) (lt-ltb slot 32 c.if-slot-ge32.false) in
     is_taken _ _ _ _ accepted (λ s x y. refl)
-    (λ i. c.write-rule.ensures i ∙ ap (λ (t : Tree). written B slot (Some t) i) (read_tree c.in-Ok.rule list read.1))
+    (λ i. c.write_rule.ensures i ∙ ap (λ (t : Tree). written B slot (Some t) i) (read_tree c.in-Ok.rule list read.1))

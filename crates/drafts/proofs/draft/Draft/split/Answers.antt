@@ -1,5 +1,4 @@
-use Rattle.std.proofs.Common.{◌≡◌, sym, ap, ◌∙◌}
-use Rattle.rules.specs.declared.book.Book.{Book}
+use Rattle.std.proofs.Common.{sym, ◌∙◌}
 use Rattle.drafts.specs.Slots.{slots_of}
 use Rattle.drafts.specs.Grounds.{side_of_kind}
 use Rattle.drafts.specs.Shares.{parts_in}
@@ -8,7 +7,7 @@ use Rattle.drafts.proofs.Taken.{is-refused, is_taken}
 use Rattle.drafts.proofs.draft.Draft.split.Goals as goal
 
 pub returns-in-Some : goal.returns-in-Some
-returns-in-Some c = λ shares long d l. is-refused _ _ _ c.in-Some.refusal (sym (c.judge-split.ensures.verdict shares long d l) ∙ c.in-Some.is)
+returns-in-Some c = λ shares long d l. is-refused _ _ _ c.in-Some.refusal (sym (c.judge_split.ensures.verdict shares long d l) ∙ c.in-Some.is)
 
 pub returns-in-None : goal.returns-in-None
-returns-in-None c = λ shares long d l. is_taken _ _ _ _ (sym (c.judge-split.ensures.verdict shares long d l) ∙ c.in-None.is) c.split-board.ensures (λ i. c.split-book.ensures i ∙ fitting (side_of_kind c.args.step.kind) (parts_in c.args.step) (slots_of c.args.self.now.book i) (c.judge-split.ensures.fitting c.in-None.is i))
+returns-in-None c = λ shares long d l. is_taken _ _ _ _ (sym (c.judge_split.ensures.verdict shares long d l) ∙ c.in-None.is) c.split_board.ensures (λ i. c.split_book.ensures i ∙ fitting (side_of_kind c.args.step.kind) (parts_in c.args.step) (slots_of c.args.self.now.book i) (c.judge_split.ensures.fitting c.in-None.is i))

@@ -1,4 +1,4 @@
-use Rattle.std.proofs.Common.{◌≡◌, ℕ, Bool, not, ◌&&◌, ◌||◌, eqb, sym, ap, ◌∙◌}
+use Rattle.std.proofs.Common.{ℕ, Bool, not, ◌&&◌, eqb, ap, ◌∙◌}
 use Rattle.bits.specs.Bit.{bit}
 use Rattle.model.specs.Sides.{has}
 use Rattle.rules.specs.Edits.{joins}
@@ -11,7 +11,7 @@ unfolding joined_side
 returns g c =
     let j = c.args.self.now in
     let F = g.R.Reading.held j.reading.now in
-    let sort = c.has-sort-sort.ensures in
+    let sort = c.has_sort-sort.ensures in
     let y = c.args.y in
     record {
       value = λ a.

@@ -1,9 +1,7 @@
-use Rattle.std.proofs.Common.{◌≡◌, ℕ, Bool, true, ◌&&◌, ◌||◌, eqb, ltb, sym, ap, ◌∙◌, arith}
-use Rattle.std.proofs.lemmas.Bool.Decides.{nat_tests}
+use Rattle.std.proofs.Common.{ℕ, eqb, ltb, ap, ◌∙◌}
 use Rattle.std.proofs.lemmas.Bool.{lt-ltb}
 use Rattle.bits.specs.Bit.{bit}
 use Rattle.model.specs.Sides.{stands}
-use Rattle.rules.specs.Edits.{joins}
 use Rattle.drafts.specs.Joining.{joined_side}
 use Rattle.drafts.proofs.Rows.{stands-row}
 use Rattle.drafts.proofs.joined.Joined.standing.Goals as goal

@@ -1,16 +1,15 @@
-use Rattle.std.proofs.Common.{◌≡◌, ℕ, Bool, not, ◌&&◌, ◌||◌, eqb, sym, ap, ◌∙◌}
-use Rattle.bits.specs.Bit.{bit}
+use Rattle.std.proofs.Common.{ℕ, Bool, ◌&&◌, eqb, sym, ap, ◌∙◌}
 use Rattle.drafts.specs.Joining.{joined, joined_side}
 use Rattle.drafts.specs.Sided.{sided}
 use Rattle.drafts.proofs.SideFacts.{at-stands, at_has, at_under, at_other}
 use Rattle.drafts.proofs.JoinSide.{joined-possible}
 use Rattle.drafts.proofs.joining.JoinedReading.row.Goals as goal
 
-pub returns-then-sort-stands-sort : goal.returns-then-sort-stands-sort
-returns-then-sort-stands-sort g c =
+pub returns-then-sort-stands_sort : goal.returns-then-sort-stands_sort
+returns-then-sort-stands_sort g c =
     let j = c.args.self.now in
     let F = g.R.Reading.held j.reading.now in
-    let sort = c.if-sort-stands-sort.true ∙ c.stands_sort.ensures in
+    let sort = c.if-sort-stands_sort.true ∙ c.stands_sort.ensures in
     record {
       value = λ x.
           c.when.ensures x ∙ ap (λ (b : Bool). eqb c.args.y 0 && b) (c.standing.ensures.value x)
@@ -18,11 +17,11 @@ returns-then-sort-stands-sort g c =
       possible = joined-possible F c.standing.ensures.possible j.side j.first j.second j.into j.low;
     }
 
-pub returns-then-sort-has-sort : goal.returns-then-sort-has-sort
-returns-then-sort-has-sort g c =
+pub returns-then-sort-has_sort : goal.returns-then-sort-has_sort
+returns-then-sort-has_sort g c =
     let j = c.args.self.now in
     let F = g.R.Reading.held j.reading.now in
-    let sort = c.if-sort-has-sort.true ∙ c.has_sort.ensures in
+    let sort = c.if-sort-has_sort.true ∙ c.has_sort.ensures in
     record {
       value = λ x.
           c.members.ensures.value x
@@ -30,11 +29,11 @@ returns-then-sort-has-sort g c =
       possible = joined-possible F c.members.ensures.possible j.side j.first j.second j.into j.low;
     }
 
-pub returns-then-sort-under-sort : goal.returns-then-sort-under-sort
-returns-then-sort-under-sort g c =
+pub returns-then-sort-under_sort : goal.returns-then-sort-under_sort
+returns-then-sort-under_sort g c =
     let j = c.args.self.now in
     let F = g.R.Reading.held j.reading.now in
-    let sort = c.if-sort-under-sort.true ∙ c.under_sort.ensures in
+    let sort = c.if-sort-under_sort.true ∙ c.under_sort.ensures in
     record {
       value = λ x.
           c.below.ensures.value x
@@ -42,14 +41,14 @@ returns-then-sort-under-sort g c =
       possible = joined-possible F c.below.ensures.possible j.side j.first j.second j.into j.low;
     }
 
-pub returns-else-sort-under-sort : goal.returns-else-sort-under-sort
-returns-else-sort-under-sort g c =
+pub returns-else-sort-under_sort : goal.returns-else-sort-under_sort
+returns-else-sort-under_sort g c =
     let j = c.args.self.now in
     let F = g.R.Reading.held j.reading.now in
     record {
       value = λ x.
           c.row.ensures.value x
           ∙ sym (at_other F j.side (joined_side j.first j.second j.into (sided F j.side)) c.args.sort x c.args.y
-          (λ q. c.if-sort-stands-sort.false (q ∙ sym c.stands_sort.ensures)) (λ q. c.if-sort-has-sort.false (q ∙ sym c.has_sort.ensures)) (λ q. c.if-sort-under-sort.false (q ∙ sym c.under_sort.ensures)));
+          (λ q. c.if-sort-stands_sort.false (q ∙ sym c.stands_sort.ensures)) (λ q. c.if-sort-has_sort.false (q ∙ sym c.has_sort.ensures)) (λ q. c.if-sort-under_sort.false (q ∙ sym c.under_sort.ensures)));
       possible = joined-possible F c.row.ensures.possible j.side j.first j.second j.into j.low;
     }

@@ -1,4 +1,4 @@
-use Rattle.std.proofs.Common.{◌≡◌, ℕ, Bool, not, ◌&&◌, ◌||◌, eqb, sym, ap, ◌∙◌}
+use Rattle.std.proofs.Common.{ℕ, eqb, ap, ◌∙◌}
 use Rattle.bits.specs.Bit.{bit}
 use Rattle.model.specs.Sides.{has}
 use Rattle.drafts.specs.Splitting.{parted_side}

@@ -1,7 +1,7 @@
-use Rattle.std.proofs.Common.{◌≡◌, ℕ, Bool, true, false, cond, not, ◌&&◌, ◌||◌, eqb, ltb, sym, ap, ◌∙◌}
+use Rattle.std.proofs.Common.{Bool, cond, eqb, ltb, sym, ap, ◌∙◌}
 use Rattle.std.proofs.lemmas.Bool.{lt-ltb}
 use Rattle.bits.specs.Bit.{bit}
-use Rattle.model.proofs.Possible.{Parts, parts}
+use Rattle.model.proofs.Possible.{parts}
 use Rattle.drafts.proofs.Placement.{placed-possible, other_row, own_row, put_in, take_out}
 use Rattle.drafts.proofs.placing.PlacedReading.row.Goals as goal
 

@@ -1,13 +1,13 @@
 use Rattle.std.proofs.Common.{ℕ, List, sym, refl, subst}
 use Rattle.list.specs.Words.{Free}
 use Rattle.list.proofs.Listings.{listed-none}
-use Rattle.list.proofs.Moves.{Sound, none-sound, cleared-free}
+use Rattle.list.proofs.Moves.{none-sound, cleared-free}
 use Rattle.list.proofs.list.FactList.new.Goals as goal
 
-pub invariant-of-result : goal.invariant-of-result
-invariant-of-result c =
+pub invariant_of-result : goal.invariant_of-result
+invariant_of-result c =
     let s = none-sound c.clear.new.words (subst (λ (ws : List ℕ). Free ws 0) (sym c.clear.ensures) (cleared-free c.args.words.now)) in
-    (s.within, (s.apart, (s.facts, (s.rest, (s.counted, tt)))))
+    record { within = s.within; apart = s.apart; facts = s.facts; rest = s.rest; counted = s.counted }
 
 pub returns : goal.returns
 returns c = record { none = listed-none c.clear.new.words; words = c.clear.ensures; home = refl }

@@ -1,6 +1,6 @@
-use Rattle.std.proofs.Common.{◌≡◌, ℕ, ◌+◌, ◌<◌, ◌≤◌, true, false, cond, not, ◌&&◌, ◌||◌, ltb, List, set, sym, refl, ap, ◌∙◌, subst, arith}
-use Rattle.std.proofs.lemmas.Bool.{and_from, and_left, and_right, or_left, or_right, or_from, lt-ltb, le-ltb, cond-true, cond-false, not_from_true, not_from_false}
-use Rattle.model.specs.Facts.{possible, fact_word}
+use Rattle.std.proofs.Common.{◌≡◌, ℕ, ◌+◌, ◌<◌, ◌≤◌, true, false, not, ◌||◌, ltb, set, sym, refl, ap, ◌∙◌, subst, arith}
+use Rattle.std.proofs.lemmas.Bool.{and_from, and_right, or_left, or_right, or_from, lt-ltb, le-ltb, cond-true, cond-false, not_from_true, not_from_false}
+use Rattle.model.specs.Facts.{possible}
 use Rattle.model.specs.Sizes.{size}
 use Rattle.model.proofs.Sets.{placed-idle}
 use Rattle.list.specs.Words.{listed, written, room}
@@ -13,7 +13,7 @@ returns-then-place-self c =
     let ws = c.args.self.now.words.now in
     let n = c.args.self.now.used in
     let f = c.args.fact in
-    let can : possible f.sort f.x f.y ≡ true = sym c.if-not-is-possible.ensures in
+    let can : possible f.sort f.x f.y ≡ true = sym c.if-not-is_possible.ensures in
     let here : listed ws n f.sort f.x f.y ≡ true = found ws n f.sort f.x f.y c.place.result can c.if-place-self.true (c.place.ensures.found c.if-place-self.true ∙ c.word-word.ensures) in
     record {
       answer = sym (and_from (possible f.sort f.x f.y) (listed ws n f.sort f.x f.y || ltb (size (listed ws n)) (room ws)) can
@@ -29,7 +29,7 @@ returns-then-self-room c =
     let ws = c.args.self.now.words.now in
     let n = c.args.self.now.used in
     let f = c.args.fact in
-    let can : possible f.sort f.x f.y ≡ true = sym c.if-not-is-possible.ensures in
+    let can : possible f.sort f.x f.y ≡ true = sym c.if-not-is_possible.ensures in
     let out : listed ws n f.sort f.x f.y ≡ false =
     missed ws n f.sort f.x f.y c.place.result can c.if-place-self.false (λ k m e. c.place.ensures.before k m (e ∙ sym c.word-word.ensures)) in
     let full : room ws ≤ size (listed ws n) = let k = c.args.self.now.counted in omega arith in
@@ -42,23 +42,23 @@ returns-then-self-room c =
       home = refl;
     }
 
-pub invariant-of-self : goal.invariant-of-self
-invariant-of-self c =
+pub invariant_of-self : goal.invariant_of-self
+invariant_of-self c =
     let ws = c.args.self.now.words.now in
     let n = c.args.self.now.used in
     let f = c.args.fact in
-    let can : possible f.sort f.x f.y ≡ true = sym c.if-not-is-possible.ensures in
+    let can : possible f.sort f.x f.y ≡ true = sym c.if-not-is_possible.ensures in
     let out : listed ws n f.sort f.x f.y ≡ false =
     missed ws n f.sort f.x f.y c.place.result can c.if-place-self.false (λ k m e. c.place.ensures.before k m (e ∙ sym c.word-word.ensures)) in
     let t = subst (λ (w : ℕ). Sound (set ws n w) (n + 1)) (sym c.word-word.ensures) (put-sound ws n f.sort f.x f.y can (omega arith) (kept c.args.self.now) out) in
-    (t.within, (t.apart, (t.facts, (t.rest, (t.counted, tt)))))
+    record { within = t.within; apart = t.apart; facts = t.facts; rest = t.rest; counted = t.counted }
 
 pub returns : goal.returns
 returns c =
     let ws = c.args.self.now.words.now in
     let n = c.args.self.now.used in
     let f = c.args.fact in
-    let can : possible f.sort f.x f.y ≡ true = sym c.if-not-is-possible.ensures in
+    let can : possible f.sort f.x f.y ≡ true = sym c.if-not-is_possible.ensures in
     let out : listed ws n f.sort f.x f.y ≡ false =
     missed ws n f.sort f.x f.y c.place.result can c.if-place-self.false (λ k m e. c.place.ensures.before k m (e ∙ sym c.word-word.ensures)) in
     let l : n < room ws = omega arith in

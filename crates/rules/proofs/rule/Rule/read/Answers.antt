@@ -5,10 +5,10 @@ use Rattle.rules.specs.Scan.{bad_shape, one_rule}
 use Rattle.rules.proofs.Accepts.{whole}
 use Rattle.rules.proofs.rule.Rule.read.Goals as goal
 
-pub invariant-of-result : goal.invariant-of-result
-invariant-of-result c =
+pub invariant_of-result : goal.invariant_of-result
+invariant_of-result c =
     let bs = c.args.list.now in
     let shape : bad_shape 0 0 (map node_of bs) ≡ None =
     ap (bad_shape 0 0) (sym c.decoded-nodes.ensures ∙ ap (λ (n : ℕ). take n c.decoded-nodes.result) (sym (sub-zero (length bs))))
-    ∙ sym c.shape-fault.ensures ∙ c.in-default-shape-fault.is in
-    (omega arith, (ap one_rule c.decoded-nodes.ensures ∙ whole bs (sym c.field-fault.ensures ∙ c.in-default.is) shape, tt))
+    ∙ sym c.shape_fault.ensures ∙ c.in_default-shape_fault.is in
+    record { short = omega arith; whole = ap one_rule c.decoded-nodes.ensures ∙ whole bs (sym c.field_fault.ensures ∙ c.in_default.is) shape }
