@@ -2,4 +2,4 @@ pub mod Qualify
 pub mod Stack
 pub mod Validity
 pub mod Refuted
-pub mod ActorSetLemmas
+pub mod Outside

@@ -4,9 +4,9 @@ ghost use Rattle.bits.specs.Bit.{bit};
 ghost use Rattle.model.specs.Facts.{Facts};
 ghost use Rattle.model.specs.Sides.{actor_stands};
 ghost use Rattle.std.specs.Int.Bits.{bit_and, bit_or, bit_xor};
-ghost use Rattle.std.proofs.Common.{ap, ◌∙◌, rules};
+ghost use Rattle.std.proofs.Common.{ap, ◌∙◌, refl};
 ghost use Rattle.bits.proofs.Laws.{bit-and, bit-or, bit-xor, apart};
-ghost use Rattle.answers.specs.ActorSetLemmas;
+ghost use Rattle.answers.specs.Outside.{outside as outside_both};
 
 use bits::Bits;
 use rules::node::Leaf;
@@ -70,11 +70,11 @@ impl Answer for bool {
 
     ghost outside = { λ standing yes. standing && not yes };
 
-    ghost intersects = { Prim.search rules };
+    ghost intersects = { λ x y a. refl };
 
-    ghost unites = { Prim.search rules };
+    ghost unites = { λ x y a. refl };
 
-    ghost excludes = { Prim.search rules };
+    ghost excludes = { λ standing x a. refl };
 
     fn and(self, other: bool) -> bool {
         self & other
@@ -103,7 +103,7 @@ impl Answer for Bits {
 
     ghost unites = { λ x y a. bit-or x.word y.word a };
 
-    ghost excludes = { λ s x a. bit-xor s.word (bit_and s.word x.word) a ∙ ap (apart (bit s.word a)) (bit-and s.word x.word a) ∙ ActorSetLemmas.outside (bit s.word a) (bit x.word a) };
+    ghost excludes = { λ s x a. bit-xor s.word (bit_and s.word x.word) a ∙ ap (apart (bit s.word a)) (bit-and s.word x.word a) ∙ outside_both (bit s.word a) (bit x.word a) };
 
     fn and(self, other: Bits) -> Bits {
         Bits {

@@ -1,11 +1,11 @@
-use crate::plant::PLANT;
-use crate::show::Shown;
 use bits::Bits;
 use model::chains::{all_below, has_circle};
 use model::fact::Fact;
 use model::reading::Reading;
 use model::side::Side;
 use model::store::Store;
+use plant::facts::PLANT;
+use plant::show::Shown;
 use std::io;
 
 // Puts the plant's facts into the store, and says how many were taken.

@@ -3,9 +3,7 @@
 
 mod account;
 mod noon;
-mod plant;
 mod questions;
-mod show;
 
 use account::{ask_chains, ask_facts, close_circle, fill};
 use board::Board;
@@ -23,7 +21,7 @@ fn tell<S: Store>(rt: &HostRuntime, name: &str, store: &mut S) -> io::Result<()>
     ask_rules(rt, store)
 }
 
-fn run(rt: &HostRuntime) -> anyhow::Result<()> {
+fn run(rt: &HostRuntime) -> io::Result<()> {
     println!(rt; "The plant: actors 0 to 3, roles 0 to 2 and units 0 to 2 stand.")?;
     println!(rt; "Roles 1 and 2 are directly below role 0, units 1 and 2 directly below unit 0.")?;
     println!(rt; "Actors 0 to 3 have roles 1, 2, 1, 0 and belong to units 1, 1, 2, 0.")?;
@@ -42,10 +40,9 @@ fn run(rt: &HostRuntime) -> anyhow::Result<()> {
         "Fact list over 20 words",
         &mut FactList::new(&mut words),
     )?;
-    tell_noon(rt)?;
-    Ok(())
+    tell_noon(rt)
 }
 
-fn main(rt: HostRuntime) -> anyhow::Result<()> {
+fn main(rt: HostRuntime) -> io::Result<()> {
     run(&rt)
 }

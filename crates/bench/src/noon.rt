@@ -1,11 +1,11 @@
-use crate::plant::PLANT;
-use crate::show::Shown;
 use answers::everyone::who;
 use answers::validity::first_absent;
 use board::Board;
 use drafts::draft::Draft;
 use drafts::step::{Join, Split, Step};
 use model::store::Store;
+use plant::facts::PLANT;
+use plant::show::Shown;
 use rules::book::Book;
 use rules::bytes::NodeBytes;
 use std::io;

@@ -1,8 +1,8 @@
-use crate::show::Shown;
 use answers::everyone::who;
 use answers::one::may;
 use answers::validity::{Invalid, validity};
 use model::reading::Reading;
+use plant::show::Shown;
 use rules::bytes::NodeBytes;
 use rules::rule::Rule;
 use std::io;

@@ -9,3 +9,5 @@ pub mod Shares
 pub mod Outcomes
 pub mod Steps
 pub mod States
+pub mod Inputs
+pub mod Unmoved

@@ -3,6 +3,7 @@ ghost use Rattle.board.specs.Holding.{facts_of};
 ghost use Rattle.drafts.specs.Grounds.{InPair, add_verdict, lower_kind, remove_verdict, upper_kind};
 ghost use Rattle.drafts.specs.States.{state_of};
 ghost use Rattle.drafts.specs.Steps.{Stepped};
+ghost use Rattle.drafts.specs.Unmoved.{Unmoved};
 ghost use Rattle.drafts.specs.declared.step.Step.TheVariants.{Add, Remove};
 ghost use Rattle.model.specs.Facts.{placed, possible};
 
@@ -65,7 +66,8 @@ impl Draft {
 
     // The entity stands.
     pub(crate) fn add(&mut self, entity: Entity) -> Result<(), Refusal>
-        ensures { Stepped (Add entity) (state_of self.old) result (state_of self.new) }
+        ensures stepped { Stepped (Add entity) (state_of self.old) result (state_of self.new) }
+        ensures refused { Unmoved result self.old self.new }
     {
         match self.judge_add(entity) {
             Some(refusal) => Err(refusal),
@@ -139,7 +141,8 @@ impl Draft {
 
     // The entity, which is in no pair, stands no more.
     pub(crate) fn remove(&mut self, entity: Entity) -> Result<(), Refusal>
-        ensures { Stepped (Remove entity) (state_of self.old) result (state_of self.new) }
+        ensures stepped { Stepped (Remove entity) (state_of self.old) result (state_of self.new) }
+        ensures refused { Unmoved result self.old self.new }
     {
         match self.judge_remove(entity) {
             Some(refusal) => Err(refusal),

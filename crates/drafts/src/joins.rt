@@ -5,6 +5,7 @@ ghost use Rattle.drafts.specs.Joining.{joined};
 ghost use Rattle.drafts.specs.Slots.{each_edited, edited, slots_of};
 ghost use Rattle.drafts.specs.States.{state_of};
 ghost use Rattle.drafts.specs.Steps.{Stepped};
+ghost use Rattle.drafts.specs.Unmoved.{Unmoved};
 ghost use Rattle.drafts.specs.declared.step.Step.TheVariants.{Join as JoinStep};
 ghost use Rattle.rules.specs.Edits.{joined_rule};
 
@@ -117,7 +118,8 @@ impl Draft {
 
     // The two are one, in the model and in every rule.
     pub(crate) fn join(&mut self, step: Join) -> Result<(), Refusal>
-        ensures { Stepped (JoinStep step) (state_of self.old) result (state_of self.new) }
+        ensures stepped { Stepped (JoinStep step) (state_of self.old) result (state_of self.new) }
+        ensures refused { Unmoved result self.old self.new }
     {
         match self.judge_join(step) {
             Some(refusal) => Err(refusal),

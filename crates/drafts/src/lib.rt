@@ -3,6 +3,7 @@
 
 pub mod draft;
 mod entities;
+mod inputs;
 mod joined;
 mod joining;
 mod joins;

@@ -3,6 +3,7 @@ ghost use Rattle.board.specs.Holding.{facts_of};
 ghost use Rattle.drafts.specs.Grounds.{LinkCircle, RelinkCircle, ends_stand, hierarchy, link_verdict, pair_range, relink_verdict, side_of_sort, unlink_verdict};
 ghost use Rattle.drafts.specs.States.{state_of};
 ghost use Rattle.drafts.specs.Steps.{Stepped};
+ghost use Rattle.drafts.specs.Unmoved.{Unmoved};
 ghost use Rattle.drafts.specs.declared.step.Step.TheVariants.{Link as LinkStep, Relink as RelinkStep, Unlink as UnlinkStep};
 ghost use Rattle.model.specs.Chains.{Circle};
 ghost use Rattle.model.specs.Facts.{placed, possible};
@@ -23,7 +24,7 @@ fn side_of_sort(sort: u8) -> Side
     if sort == 5 { Side::Role } else { Side::Unit }
 }
 
-fn is_pair(pair: Fact) -> bool
+pub(crate) fn is_pair(pair: Fact) -> bool
     ensures range { result ≡ pair_range pair.sort pair.x pair.y }
     ensures possible { result ≡ true → possible pair.sort pair.x pair.y ≡ true }
 {
@@ -87,7 +88,8 @@ impl Draft {
 
     // The pair is held.
     pub(crate) fn link(&mut self, pair: Fact) -> Result<(), Refusal>
-        ensures { Stepped (LinkStep pair) (state_of self.old) result (state_of self.new) }
+        ensures stepped { Stepped (LinkStep pair) (state_of self.old) result (state_of self.new) }
+        ensures refused { Unmoved result self.old self.new }
     {
         match self.judge_link(pair) {
             Some(refusal) => Err(refusal),
@@ -115,7 +117,8 @@ impl Draft {
 
     // The pair is held no more.
     pub(crate) fn unlink(&mut self, pair: Fact) -> Result<(), Refusal>
-        ensures { Stepped (UnlinkStep pair) (state_of self.old) result (state_of self.new) }
+        ensures stepped { Stepped (UnlinkStep pair) (state_of self.old) result (state_of self.new) }
+        ensures refused { Unmoved result self.old self.new }
     {
         match self.judge_unlink(pair) {
             Some(refusal) => Err(refusal),
@@ -197,7 +200,8 @@ impl Draft {
 
     // The pair (x, y) becomes (x, z).
     pub(crate) fn relink(&mut self, step: Relink) -> Result<(), Refusal>
-        ensures { Stepped (RelinkStep step) (state_of self.old) result (state_of self.new) }
+        ensures stepped { Stepped (RelinkStep step) (state_of self.old) result (state_of self.new) }
+        ensures refused { Unmoved result self.old self.new }
     {
         match self.judge_relink(step) {
             Some(refusal) => Err(refusal),

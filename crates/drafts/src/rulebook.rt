@@ -2,6 +2,7 @@ ghost use Rattle.std.specs.Prelude.{◌≡◌, ℕ, ◌<◌, Some, None};
 ghost use Rattle.drafts.specs.Slots.{slots_of, written};
 ghost use Rattle.drafts.specs.States.{state_of};
 ghost use Rattle.drafts.specs.Steps.{Stepped};
+ghost use Rattle.drafts.specs.Unmoved.{Unmoved};
 ghost use Rattle.drafts.specs.declared.step.Step.TheVariants.{PutRule, RemoveRule};
 ghost use Rattle.rules.specs.Rules.{rule_tree};
 
@@ -30,7 +31,8 @@ fn clear_rule(book: &mut Book, slot: u8)
 impl Draft {
     // The slot has the rule that the node list is.
     pub(crate) fn put_rule(&mut self, slot: u8, list: &[NodeBytes]) -> Result<(), Refusal>
-        ensures { Stepped (PutRule slot list.entry) (state_of self.old) result (state_of self.new) }
+        ensures stepped { Stepped (PutRule slot list.entry) (state_of self.old) result (state_of self.new) }
+        ensures refused { Unmoved result self.old self.new }
     {
         let read = Rule::read(list);
         if let Err(Fault::Length) = read {
@@ -50,7 +52,8 @@ impl Draft {
 
     // The slot is empty.
     pub(crate) fn remove_rule(&mut self, slot: u8) -> Result<(), Refusal>
-        ensures { Stepped (RemoveRule slot) (state_of self.old) result (state_of self.new) }
+        ensures stepped { Stepped (RemoveRule slot) (state_of self.old) result (state_of self.new) }
+        ensures refused { Unmoved result self.old self.new }
     {
         if slot >= 32 {
             return Err(Refusal::Range(slot));

@@ -7,6 +7,7 @@ ghost use Rattle.drafts.specs.Slots.{each_edited, edited, slots_of};
 ghost use Rattle.drafts.specs.Splitting.{parted};
 ghost use Rattle.drafts.specs.States.{state_of};
 ghost use Rattle.drafts.specs.Steps.{Stepped};
+ghost use Rattle.drafts.specs.Unmoved.{Unmoved};
 ghost use Rattle.drafts.specs.declared.step.Step.TheVariants.{Split as SplitStep};
 
 use crate::draft::Draft;
@@ -162,7 +163,8 @@ impl Draft {
 
     // The whole is two parts, in the model and in every rule.
     pub(crate) fn split(&mut self, step: Split) -> Result<(), Refusal>
-        ensures { Stepped (SplitStep step) (state_of self.old) result (state_of self.new) }
+        ensures stepped { Stepped (SplitStep step) (state_of self.old) result (state_of self.new) }
+        ensures refused { Unmoved result self.old self.new }
     {
         match self.judge_split(step) {
             Some(refusal) => Err(refusal),

@@ -1,5 +1,6 @@
 ghost use Rattle.drafts.specs.States.{state_of};
 ghost use Rattle.drafts.specs.Steps.{Stepped};
+ghost use Rattle.drafts.specs.Unmoved.{Unmoved};
 
 use crate::draft::Draft;
 use crate::refusal::Refusal;
@@ -8,7 +9,8 @@ use crate::step::Step;
 impl Draft {
     /// Edits the draft, or says why not and leaves it as it was.
     pub fn step(&mut self, step: Step) -> Result<(), Refusal>
-        ensures { Stepped step.entry (state_of self.old) result (state_of self.new) }
+        ensures stepped { Stepped step.entry (state_of self.old) result (state_of self.new) }
+        ensures refused { Unmoved result self.old self.new }
     {
         match step {
             Step::Add(entity) => self.add(entity),

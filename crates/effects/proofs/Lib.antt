@@ -10,3 +10,5 @@ pub mod SamePeople
 pub mod Settled
 pub mod OneFact
 pub mod Steps
+pub mod Accepted
+pub mod First

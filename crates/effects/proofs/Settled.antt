@@ -31,7 +31,7 @@ sound_unless_not F h = record {
 }
 
 -- what is absurd however P is decided is absurd
-either_decision : (P : Type 0) → ((c : Bool) → Decides c P → ⊥) → ⊥
+pub either_decision : (P : Type 0) → ((c : Bool) → Decides c P → ⊥) → ⊥
 either_decision P h = h false (λ e. absurd (true≢false (sym e)), λ p. absurd (h true (λ _. p, λ _. refl)))
 
 -- a model that is sound however P is decided is sound
@@ -52,7 +52,7 @@ module _ (k : Side) (D : Parts) (B : Slots) (h : (long : Option ℕ) → LowestL
       ]
 
   -- there is a lowest slot that is too long, or none
-  some-lowest : ⊥
+  pub some-lowest : ⊥
   some-lowest = h None (λ i. none_long_before (suc i) i (omega arith))
 
 -- a model that is sound whichever slot is the lowest that is too long is sound

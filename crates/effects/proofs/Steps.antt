@@ -1,24 +1,18 @@
 -- Every step that is accepted makes a sound model of a sound one.
-use Rattle.std.proofs.Common.{◌≡◌, ℕ, ◌<◌, Bool, true, false, not, ◌&&◌, ◌||◌, eqb, ltb, Some, None, Decides, Option, sym, refl, ap, ◌∙◌, inl, inr}
-use Rattle.std.proofs.lemmas.Bool.{both_ways, not-false, and_parts, or_cases, or_parts, ltb-true, eqb-true, eq-eqb}
+use Rattle.std.proofs.Common.{◌≡◌, ℕ, ◌<◌, Bool, true, false, not, ◌&&◌, ◌||◌, eqb, ltb, None, Decides, Option}
+use Rattle.std.proofs.lemmas.Bool.{not-false, and_parts, ltb-true}
 use Rattle.model.specs.Facts.{Facts, placed}
-use Rattle.model.specs.Sides.{stands_sort, stands}
-use Rattle.drafts.specs.Grounds.{InPair, LinkCircle, RelinkCircle, JoinCircle, add_verdict, remove_verdict, link_verdict, unlink_verdict, relink_verdict, join_verdict, split_verdict, parting_verdict, first_of, long_refusal, entity_range, pair_range, pair_sort, hierarchy, ends_stand, lower_kind, upper_kind, group_kind, group_range, side_of_kind}
+use Rattle.drafts.specs.Grounds.{InPair, LinkCircle, RelinkCircle, JoinCircle, add_verdict, remove_verdict, link_verdict, unlink_verdict, relink_verdict, join_verdict, split_verdict, parting_verdict, long_refusal, entity_range, pair_range, pair_sort, hierarchy, ends_stand, lower_kind, upper_kind, side_of_kind}
 use Rattle.drafts.specs.Joining.{joined}
 use Rattle.drafts.specs.Shares.{SharesFit, parts_in}
 use Rattle.drafts.specs.Splitting.{Parts, parted}
-use Rattle.drafts.specs.declared.refusal.Refusal.{Refusal}
 use Rattle.drafts.specs.declared.step.Step.TheVariants.{Add, Remove, Link, Unlink, Relink, Join, Split, PutRule, RemoveRule}
 use Rattle.drafts.proofs.Verdicts.{passed}
-use Rattle.effects.specs.Fits.{JoinFits, SplitFits}
 use Rattle.effects.specs.Sound.{Sound, StepsStaySound}
+use Rattle.effects.proofs.Accepted.{decided_out, first_passed, join_fits, split_fits}
 use Rattle.effects.proofs.OneFact.{EndsAt, sound_added, sound_removed, sound_linked, sound_unlinked, ends_left}
 use Rattle.effects.proofs.Settled.{sound_if_decided, sound_if_lowest, done_sound}
 use Rattle.effects.proofs.Sound.{join_keeps_ends, join_makes_no_circle, split_keeps_ends, split_makes_no_circle}
-
--- what is decided not to be so is not so
-decided_out : (P : Type 0) (b : Bool) → Decides b P → b ≡ false → P → ⊥
-decided_out P b d e p = both_ways b e (d.1 p)
 
 -- ── ranges ──
 
@@ -30,13 +24,6 @@ sort_of_pair s x y h = (and_parts (pair_sort s) (ltb x 64 && ltb y 64) h).0
 
 ends_of : (F : Facts) (s x y : ℕ) → ends_stand F s x y ≡ true → EndsAt F s x y
 ends_of F s x y h = and_parts (F (lower_kind s) x 0) (F (upper_kind s) y 0) h
-
-kind_sort : (kind : ℕ) → group_kind kind ≡ true → stands_sort (side_of_kind kind) ≡ kind
-kind_sort kind h =
-    elim (or_cases (eqb kind 1) (eqb kind 2) h) [
-      | inl t ↦ let e = eqb-true kind 1 t in ap (λ (z : ℕ). stands_sort (side_of_kind z)) e ∙ sym e
-      | inr t ↦ let e = eqb-true kind 2 t in ap (λ (z : ℕ). stands_sort (side_of_kind z)) e ∙ sym e
-    ]
 
 module _ (F : Facts) (w : Sound F) where
   -- ── entities and pairs ──
@@ -86,63 +73,17 @@ module _ (F : Facts) (w : Sound F) where
 
   -- ── joining and splitting ──
 
-  kind-stands : (kind n : ℕ) → group_kind kind ≡ true → stands F (side_of_kind kind) n ≡ F kind n 0
-  kind-stands kind n h = ap (λ (z : ℕ). F z n 0) (kind_sort kind h)
-
-  join_fits : (kind e f n : ℕ) (circle : Bool) → Decides circle (JoinCircle F kind e f n) → join_verdict F kind e f n circle ≡ None → JoinFits F (side_of_kind kind) e f n
-  join_fits kind e f n circle d v =
-      let p = passed (not (group_range kind e f n)) _ _ v in
-      let q = passed (eqb e f) _ _ p.1 in
-      let r = passed (not (F kind e 0 && F kind f 0)) _ _ q.1 in
-      let t = passed (F kind n 0) _ _ r.1 in
-      let u = passed circle _ _ t.1 in
-      let g = (and_parts (group_kind kind) (ltb e 64 && (ltb f 64 && ltb n 64)) (not-false (group_range kind e f n) p.0)).0 in
-      let both = and_parts (F kind e 0) (F kind f 0) (not-false (F kind e 0 && F kind f 0) r.0) in
-      record {
-        first = kind-stands kind e g ∙ both.0;
-        second = kind-stands kind f g ∙ both.1;
-        fresh = kind-stands kind n g ∙ t.0;
-        apart = λ i. both_ways (eqb e f) q.0 (eq-eqb e f i);
-        circle = decided_out (JoinCircle F kind e f n) circle d u.0;
-      }
-
   join-sound : (kind e f n : ℕ) (circle : Bool) → Decides circle (JoinCircle F kind e f n) → join_verdict F kind e f n circle ≡ None
       → Sound (joined (side_of_kind kind) e f n F)
   join-sound kind e f n circle d v = record {
     ends = join_keeps_ends F (side_of_kind kind) e f n w.ends;
-    circles = join_makes_no_circle F (side_of_kind kind) e f n w.circles (join_fits kind e f n circle d v);
+    circles = join_makes_no_circle F (side_of_kind kind) e f n w.circles (join_fits F kind e f n circle d v);
   }
-
-  first_passed : (a b : Option Refusal) → first_of a b ≡ None → a ≡ None
-  first_passed None b v = refl
-  first_passed (Some e) b v = v
-
-  split_fits : (kind : ℕ) (D : Parts) (shares : Bool) → Decides shares (SharesFit F (side_of_kind kind) D)
-      → parting_verdict F kind D.whole D.part1 D.part2 shares ≡ None → SplitFits F (side_of_kind kind) D
-  split_fits kind D shares d v =
-      let p = passed (not (group_range kind D.whole D.part1 D.part2)) _ _ v in
-      let q = passed (eqb D.part1 D.part2) _ _ p.1 in
-      let r = passed (not (F kind D.whole 0)) _ _ q.1 in
-      let t = passed (F kind D.part1 0 || F kind D.part2 0) _ _ r.1 in
-      let u = passed (not shares) _ _ t.1 in
-      let g =
-      (and_parts (group_kind kind) (ltb D.whole 64 && (ltb D.part1 64 && ltb D.part2 64))
-      (not-false (group_range kind D.whole D.part1 D.part2) p.0)).0 in
-      let neither = or_parts (F kind D.part1 0) (F kind D.part2 0) t.0 in
-      let fit = d.0 (not-false shares u.0) in
-      record {
-        whole = kind-stands kind D.whole g ∙ not-false (F kind D.whole 0) r.0;
-        fresh1 = kind-stands kind D.part1 g ∙ neither.0;
-        fresh2 = kind-stands kind D.part2 g ∙ neither.1;
-        apart = λ i. both_ways (eqb D.part1 D.part2) q.0 (eq-eqb D.part1 D.part2 i);
-        actors = fit.0;
-        below = fit.1;
-      }
 
   split-sound : (kind : ℕ) (D : Parts) (shares : Bool) (long : Option ℕ) → Decides shares (SharesFit F (side_of_kind kind) D)
       → split_verdict F kind D.whole D.part1 D.part2 shares long ≡ None → Sound (parted (side_of_kind kind) D F)
   split-sound kind D shares long d v =
-      let fits = split_fits kind D shares d (first_passed (parting_verdict F kind D.whole D.part1 D.part2 shares) (long_refusal long) v) in
+      let fits = split_fits F kind D shares d (first_passed (parting_verdict F kind D.whole D.part1 D.part2 shares) (long_refusal long) v) in
       record {
         ends = split_keeps_ends F (side_of_kind kind) D w.ends (w.circles (side_of_kind kind)) fits;
         circles = split_makes_no_circle F (side_of_kind kind) D w.ends w.circles fits;

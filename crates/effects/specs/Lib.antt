@@ -5,3 +5,5 @@ pub mod Kept
 pub mod Rules
 pub mod Answers
 pub mod Sound
+pub mod Accepted
+pub mod First

@@ -1,7 +1,9 @@
 //! What steps do to a model and to the answers of its rules, as theorems.
 #![tactic(auto)]
 
+ghost use Rattle.effects.specs.Accepted.{AcceptedJoins, AcceptedSplits};
 ghost use Rattle.effects.specs.Answers.{JoinGrows, SplitKeepsAnswers};
+ghost use Rattle.effects.specs.First.{InputsGoFirst};
 ghost use Rattle.effects.specs.Kept.{JoinKeepsEnds, JoinMakesNoCircle, SplitKeepsEnds, SplitMakesNoCircle};
 ghost use Rattle.effects.specs.Left.{JoinLeaves, SplitLeaves};
 ghost use Rattle.effects.specs.Pairs.{HasBack, HasOnto, JoinedHas, JoinedUnder, PartedHas, PartedUnder, UnderBack, UnderOnto};
@@ -84,6 +86,21 @@ pub fn joins_grow() -> u8
 // A split leaves everyone's answer.
 pub fn splits_keep() -> u8
     ensures { SplitKeepsAnswers }
+{
+    0
+}
+
+// What the input of a step shows is refused first, whatever the draft holds.
+pub fn inputs_go_first() -> u8
+    ensures { InputsGoFirst }
+{
+    0
+}
+
+// An accepted join fits, and so does an accepted split; what they leave is the joined and the split model and rules.
+pub fn accepted_ones_fit() -> u8
+    ensures join { AcceptedJoins }
+    ensures split { AcceptedSplits }
 {
     0
 }

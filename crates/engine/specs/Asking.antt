@@ -5,13 +5,14 @@ use Rattle.rules.specs.Trees.{Tree}
 use Rattle.answers.specs.Qualify.{Qualifies}
 use Rattle.previews.specs.Previews.{PeopleOf, Previewed}
 use Rattle.previews.specs.declared.preview.Preview.{Preview}
-use Rattle.drafts.specs.Grounds.{refused_if, is_empty}
+use Rattle.drafts.specs.Grounds.{is_empty}
 use Rattle.drafts.specs.Slots.{Slots}
 use Rattle.drafts.specs.Steps.{State}
 use Rattle.engine.specs.declared.refusal.Refusal.{Refusal}
 use Rattle.engine.specs.declared.refusal.Refusal.TheVariants.{Ticket, Range, Empty}
 use Rattle.engine.specs.declared.ticket.OpenTicket.{OpenTicket}
-use Rattle.engine.specs.Moments.{Moment, open_draft, released}
+use Rattle.engine.specs.Answered.{refused_if}
+use Rattle.engine.specs.Moments.{Moment, open_draft}
 
 -- The slot and the actor asked about must be in range, then the slot must be filled.
 abbrev pub question_verdict : Slots → (slot : ℕ) → (in_range : Bool) → Option Refusal

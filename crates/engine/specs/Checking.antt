@@ -1,11 +1,11 @@
 -- The check of a draft.
 use Rattle.std.specs.Prelude.{◌≡◌, ℕ, ◌<◌, ◌≤◌, Some, None, Ok, Err, Option, Result, MatchOption}
+use Rattle.model.specs.Facts.{Facts}
 use Rattle.model.specs.Sizes.{size}
-use Rattle.rules.specs.Trees.{Tree}
-use Rattle.answers.specs.Validity.{Valid}
-use Rattle.answers.specs.Refuted.{Refutes}
+use Rattle.rules.specs.Trees.{Tree, nodes}
+use Rattle.answers.specs.Validity.{NamesStand, Somebody, Valid, first_absent}
 use Rattle.answers.specs.declared.validity.Invalid.{Invalid}
-use Rattle.drafts.specs.Outcomes.{outcome}
+use Rattle.answers.specs.declared.validity.Invalid.TheVariants.{Absent, Nobody}
 use Rattle.drafts.specs.Steps.{State}
 use Rattle.engine.specs.declared.refusal.Refusal.{Refusal}
 use Rattle.engine.specs.declared.refusal.Refusal.TheVariants.{Ticket, Unfit as IsUnfit}
@@ -13,16 +13,21 @@ use Rattle.engine.specs.declared.refusal.Unfit.{Unfit}
 use Rattle.engine.specs.declared.refusal.Unfit.TheVariants.{Rule, TooMany}
 use Rattle.engine.specs.declared.ticket.OpenTicket.{OpenTicket}
 use Rattle.engine.specs.declared.ticket.ClearedTicket.{ClearedTicket}
-use Rattle.engine.specs.Answered.{Gives}
-use Rattle.engine.specs.Moments.{Moment, opened, cleared, with_change, open_draft}
+use Rattle.engine.specs.Answered.{Gives, outcome}
+use Rattle.engine.specs.Moments.{Moment, cleared, with_change, open_draft}
 
 -- The slot is empty, or its rule is valid.
 abbrev pub ValidAt : State → (slot : ℕ) → Type 0
 ValidAt D slot = (t : Tree) → D.slots slot ≡ Some t → Valid D.facts t
 
+-- The reason holds: that node is the first that names an entity that does not stand; or all names stand and nobody qualifies.
+abbrev pub NotValid : Facts → Tree → Invalid → Type 0
+NotValid F t (Absent i) = first_absent F 0 (nodes t) ≡ Some i
+NotValid F t Nobody = NamesStand F t × (Somebody F t → ⊥)
+
 -- The slot's rule is not valid, for this reason.
 abbrev pub InvalidAt : State → (slot : ℕ) → Invalid → Type 0
-InvalidAt D slot why = (t : Tree) × (D.slots slot ≡ Some t) × Refutes D.facts t why
+InvalidAt D slot why = (t : Tree) × (D.slots slot ≡ Some t) × NotValid D.facts t why
 
 -- Every rule in a slot below n is valid.
 abbrev pub ValidBelow : State → ℕ → Type 0

@@ -1,16 +1,14 @@
 -- Making an engine, opening a change, reopening and withdrawing it.
-use Rattle.std.specs.Prelude.{◌≡◌, ℕ, ◌+◌, Bool, true, false, not, Some, None, Ok, Err, Option, Result, MatchOption, nat_le}
+use Rattle.std.specs.Prelude.{ℕ, ◌+◌, Bool, true, false, not, None, Ok, Err, Option, Result, MatchOption, nat_le}
 use Rattle.model.specs.Facts.{nothing}
 use Rattle.transfer.specs.Contents.{Content, Writing}
 use Rattle.transfer.specs.Orders.{written_out}
-use Rattle.drafts.specs.Grounds.{refused_if}
-use Rattle.drafts.specs.Outcomes.{outcome}
 use Rattle.engine.specs.declared.refusal.Refusal.{Refusal}
 use Rattle.engine.specs.declared.refusal.Refusal.TheVariants.{Ticket as TicketRefused, Busy, Exhausted}
 use Rattle.engine.specs.declared.ticket.OpenTicket.{OpenTicket}
 use Rattle.engine.specs.declared.ticket.ClearedTicket.{ClearedTicket}
 use Rattle.engine.specs.declared.ticket.Ticket.{Ticket}
-use Rattle.engine.specs.Answered.{Gives, answered}
+use Rattle.engine.specs.Answered.{Gives, answered, outcome, refused_if}
 use Rattle.engine.specs.Moments.{Moment, Change, idle, opened, cleared, released, with_change, cleared_draft, draft_of}
 
 -- A new engine over a store: every fact is dropped from the store, and the book is empty.

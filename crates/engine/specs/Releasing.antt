@@ -1,7 +1,7 @@
 -- The release of a cleared change.
-use Rattle.std.specs.Prelude.{◌≡◌, ℕ, ◌≤◌, Ok, Err, Result, MatchOption}
+use Rattle.std.specs.Prelude.{◌≡◌, ◌≤◌, Ok, Err, Result, MatchOption}
 use Rattle.model.specs.Sizes.{size}
-use Rattle.transfer.specs.Contents.{Content, Writing}
+use Rattle.transfer.specs.Contents.{Writing}
 use Rattle.transfer.specs.Orders.{written_out}
 use Rattle.drafts.specs.Steps.{State}
 use Rattle.engine.specs.declared.refusal.Refusal.{Refusal}

@@ -30,7 +30,7 @@ impl<S: Store> Engine<S> {
 
     /// The people of the slot's released rule in the released model, bit a for actor a.
     pub fn set(&self, slot: u8) -> Result<Bits, Refusal>
-        ensures { TellsSet (released (moment S.Reading S.Store self.now)) slot result }
+        ensures { TellsSet (released (moment S.Reading S.Store.own self.now)) slot result }
     {
         if slot >= 32 {
             return Err(Refusal::Range(slot));
@@ -43,7 +43,7 @@ impl<S: Store> Engine<S> {
 
     /// Whether the actor qualifies for the slot's released rule in the released model.
     pub fn may(&self, slot: u8, actor: u8) -> Result<bool, Refusal>
-        ensures { TellsWhether (released (moment S.Reading S.Store self.now)) slot actor result }
+        ensures { TellsWhether (released (moment S.Reading S.Store.own self.now)) slot actor result }
     {
         if slot >= 32 || actor >= 64 {
             return Err(Refusal::Range(slot));
@@ -56,7 +56,7 @@ impl<S: Store> Engine<S> {
 
     /// The people that the slot would have if the open change were released, against those that it has.
     pub fn preview(&self, ticket: &OpenTicket, slot: u8) -> Result<Preview, Refusal>
-        ensures { Foretells (moment S.Reading S.Store self.now) ticket.now slot result }
+        ensures { Foretells (moment S.Reading S.Store.own self.now) ticket.now slot result }
     {
         if slot >= 32 {
             return Err(Refusal::Range(slot));

@@ -55,7 +55,7 @@ fn unfit(draft: &Draft, capacity: usize) -> Option<Unfit>
 impl<S: Store> Engine<S> {
     /// Clears the open change if every rule of its draft is valid and the store can hold its model; otherwise the first fault is told.
     pub fn check(&mut self, ticket: OpenTicket) -> Result<ClearedTicket, (Refusal, OpenTicket)>
-        ensures checks { Checks (moment S.Reading S.Store self.old) ticket result (moment S.Reading S.Store self.new) }
+        ensures checks { Checks (moment S.Reading S.Store.own self.old) ticket result (moment S.Reading S.Store.own self.new) }
         ensures untouched { Untouched self.old self.new }
         ensures refused { SameIfRefused result self.old self.new }
     {

@@ -22,7 +22,7 @@ const CHANGES: u32 = 1000000;
 impl<S: Store> Engine<S> {
     // Whether this is the ticket of the open change.
     pub(crate) fn is_open(&self, ticket: &OpenTicket) -> bool
-        ensures { open_draft (moment S.Reading S.Store self.now) ticket.now ≡ (if result then Some (state_of self.now.draft) else None) }
+        ensures { open_draft (moment S.Reading S.Store.own self.now) ticket.now ≡ (if result then Some (state_of self.now.draft) else None) }
     {
         match self.phase {
             Phase::Open => ticket.engine == self.number && ticket.change == self.changes,
@@ -32,7 +32,7 @@ impl<S: Store> Engine<S> {
 
     // Whether this is the ticket of the cleared change.
     pub(crate) fn is_cleared(&self, ticket: &ClearedTicket) -> bool
-        ensures { cleared_draft (moment S.Reading S.Store self.now) ticket.now ≡ (if result then Some (state_of self.now.draft) else None) }
+        ensures { cleared_draft (moment S.Reading S.Store.own self.now) ticket.now ≡ (if result then Some (state_of self.now.draft) else None) }
     {
         match self.phase {
             Phase::Cleared => ticket.engine == self.number && ticket.change == self.changes,
@@ -42,7 +42,7 @@ impl<S: Store> Engine<S> {
 
     /// A new engine over the store. It drops every fact from the store, and its book is empty.
     pub fn new(mut store: S, number: u16) -> Engine<S>
-        ensures made { moment S.Reading S.Store result ≡ made (writing S.Store) (content S.Reading S.Store store) number }
+        ensures made { moment S.Reading S.Store.own result ≡ made (writing S.Store.own) (content S.Reading S.Store.own store) number }
         ensures empty { S.Reading.held result.store ≡ nothing }
     {
         let draft = Draft {
@@ -62,7 +62,7 @@ impl<S: Store> Engine<S> {
 
     /// Opens the next change: its draft begins with what is released.
     pub fn open(&mut self) -> Result<OpenTicket, Refusal>
-        ensures opens { Opens (moment S.Reading S.Store self.old) result (moment S.Reading S.Store self.new) }
+        ensures opens { Opens (moment S.Reading S.Store.own self.old) result (moment S.Reading S.Store.own self.new) }
         ensures untouched { Untouched self.old self.new }
         ensures refused { SameIfRefused result self.old self.new }
     {
@@ -85,7 +85,7 @@ impl<S: Store> Engine<S> {
 
     /// Opens the cleared change again, with the same draft.
     pub fn reopen(&mut self, ticket: ClearedTicket) -> Result<OpenTicket, (Refusal, ClearedTicket)>
-        ensures reopens { Reopens (moment S.Reading S.Store self.old) ticket result (moment S.Reading S.Store self.new) }
+        ensures reopens { Reopens (moment S.Reading S.Store.own self.old) ticket result (moment S.Reading S.Store.own self.new) }
         ensures untouched { Untouched self.old self.new }
         ensures refused { SameIfRefused result self.old self.new }
     {
@@ -99,7 +99,7 @@ impl<S: Store> Engine<S> {
 
     /// Ends the change without a release. The ticket is spent, also where it is refused.
     pub fn withdraw(&mut self, ticket: Ticket) -> Result<(), Refusal>
-        ensures withdraws { Withdraws (moment S.Reading S.Store self.old) ticket result (moment S.Reading S.Store self.new) }
+        ensures withdraws { Withdraws (moment S.Reading S.Store.own self.old) ticket result (moment S.Reading S.Store.own self.new) }
         ensures untouched { Untouched self.old self.new }
         ensures refused { SameIfRefused result self.old self.new }
     {

@@ -11,7 +11,7 @@ use transfer::write_out::write_out;
 impl<S: Store> Engine<S> {
     /// Releases the cleared change: its facts are written to the store, its rules to the book, and the change has ended.
     pub fn release(&mut self, ticket: ClearedTicket) -> Result<(), (Refusal, ClearedTicket)>
-        ensures releases { Releases (writing S.Store) (moment S.Reading S.Store self.old) ticket result (moment S.Reading S.Store self.new) }
+        ensures releases { Releases (writing S.Store.own) (moment S.Reading S.Store.own self.old) ticket result (moment S.Reading S.Store.own self.new) }
         ensures refused { SameIfRefused result self.old self.new }
     {
         if !self.is_cleared(&ticket) {

@@ -10,7 +10,7 @@ use model::store::Store;
 impl<S: Store> Engine<S> {
     /// Edits the draft of the open change, or says why not and leaves it as it was.
     pub fn step(&mut self, ticket: &OpenTicket, step: Step) -> Result<(), Refusal>
-        ensures steps { Steps (moment S.Reading S.Store self.old) ticket.now step.entry result (moment S.Reading S.Store self.new) }
+        ensures steps { Steps (moment S.Reading S.Store.own self.old) ticket.now step.entry result (moment S.Reading S.Store.own self.new) }
         ensures untouched { Untouched self.old self.new }
         ensures refused { SameIfRefused result self.old self.new }
     {

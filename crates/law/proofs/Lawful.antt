@@ -1,19 +1,16 @@
 -- Every run of a new engine keeps the law.
-use Rattle.std.proofs.Common.{◌≡◌, ℕ, zero, suc, ◌+◌, ◌-◌, ◌<◌, ◌≤◌, Bool, true, false, ◌⊎◌, List, Some, None, Option, sym, refl, ap, ◌∙◌, subst, inl, inr, ⊎_elim, add-one, arith}
+use Rattle.std.proofs.Common.{◌≡◌, ℕ, zero, suc, ◌+◌, ◌-◌, ◌<◌, ◌≤◌, false, List, Some, None, Option, sym, refl, ◌∙◌, subst, ⊎_elim, add-one, arith}
 use Rattle.std.proofs.lemmas.Bool.{false≢true}
-use Rattle.model.specs.Chains.{Chain, one, more, Circle}
-use Rattle.model.specs.Facts.{Facts, nothing}
-use Rattle.model.specs.Sizes.{size}
-use Rattle.model.specs.declared.side.Side.{Side}
+use Rattle.model.specs.Chains.{Chain, one, more}
+use Rattle.model.specs.Facts.{nothing}
 use Rattle.rules.specs.Trees.{Tree}
 use Rattle.transfer.specs.Contents.{Writing}
 use Rattle.drafts.specs.Steps.{State}
 use Rattle.drafts.specs.declared.step.Step.{Step}
 use Rattle.effects.specs.Sound.{Sound}
 use Rattle.engine.specs.Asking.{TellsSet, TellsWhether}
-use Rattle.engine.specs.Checking.{AllValid}
-use Rattle.engine.specs.Moments.{Moment, Change, idle, cleared, released}
-use Rattle.law.specs.Changes.{Holds, ReleasedOnly, NothingReleased}
+use Rattle.engine.specs.Moments.{Moment, idle, released}
+use Rattle.law.specs.Changes.{Holds, NothingReleased}
 use Rattle.law.specs.Kinds.{IsSplit, IsSplitOrJoin}
 use Rattle.law.specs.Law.{Law, at}
 use Rattle.law.specs.Orders.{Scene}

@@ -3,26 +3,25 @@ use Rattle.std.proofs.Common.{◌≡◌, ℕ, ◌+◌, ◌<◌, ◌≤◌, Bool,
 use Rattle.std.proofs.lemmas.Bool.{cases_lt}
 use Rattle.transfer.specs.Contents.{Writing}
 use Rattle.previews.specs.declared.preview.Preview.{Preview}
-use Rattle.drafts.specs.Inputs.{input-verdict, step-slot}
-use Rattle.drafts.specs.Outcomes.{outcome}
-use Rattle.drafts.specs.Steps.{State, DraftVerdict, Verdict, made}
+use Rattle.drafts.specs.Inputs.{input_verdict, step_slot}
+use Rattle.drafts.specs.Steps.{State, Stepped}
 use Rattle.drafts.specs.declared.refusal.Refusal.{Refusal as StepRefusal}
 use Rattle.drafts.specs.declared.step.Step.{Step}
 use Rattle.effects.specs.Sound.{Sound}
-use Rattle.engine.specs.Answered.{Gives, answered}
-use Rattle.engine.specs.Asking.{TellsSet, TellsWhether, Foretells, Foretold}
+use Rattle.engine.specs.Answered.{Gives, answered, outcome}
+use Rattle.engine.specs.Asking.{TellsSet, TellsWhether, Foretells}
 use Rattle.engine.specs.Checking.{AllValid, Checks, Checked, Finds, check_answer}
-use Rattle.engine.specs.Moments.{Moment, Change, idle, opened, cleared, released, with_change, open_draft, cleared_draft, draft_of}
+use Rattle.engine.specs.Moments.{Moment, idle, opened, cleared, released, with_change, open_draft, cleared_draft, draft_of}
 use Rattle.engine.specs.Opening.{Opens, Reopens, Withdraws, begun, open_ticket, open_verdict}
-use Rattle.engine.specs.Releasing.{Releases, Released, after_release}
-use Rattle.engine.specs.Stepping.{Steps, StepTaken, step_answer}
+use Rattle.engine.specs.Releasing.{Releases, Released}
+use Rattle.engine.specs.Stepping.{Steps, StepTaken, after_step, step_answer}
 use Rattle.engine.specs.declared.refusal.Refusal.{Refusal}
 use Rattle.engine.specs.declared.refusal.Refusal.TheVariants as W
 use Rattle.engine.specs.declared.refusal.Unfit.{Unfit}
 use Rattle.engine.specs.declared.ticket.OpenTicket.{OpenTicket}
 use Rattle.engine.specs.declared.ticket.ClearedTicket.{ClearedTicket}
 use Rattle.engine.specs.declared.ticket.Ticket.{Ticket}
-use Rattle.law.specs.Changes.{StepMade, Holds}
+use Rattle.law.specs.Changes.{Holds}
 use Rattle.law.specs.Law.{at}
 use Rattle.law.specs.Orders.{Scene, NoCall, Called, Asked, Either, Obeys, told, told_back, told_set, told_whether, told_preview, after_open, after_check, after_reopen, after_release as release_leaves}
 use Rattle.law.specs.Prepared.{Prepared, copied, stepped}
@@ -109,14 +108,13 @@ module _ {Wr : Writing} {start : Scene} {orders : List Order} {n : ℕ} (run : R
 
   stepping : (k i : ℕ) (step : Step) (key : OpenTicket) (left : Result (Unit {0}) Refusal → Purse) → order_at orders k ≡ O.Step i step
       → Called (Steps (at run k) key step) (told A.Stepped) left (run.answer k) (run.scene (k + 1)) → Upright (Holds run k) (at run k) → Turn k
-  stepping k i step key left order c u = by_input (input-verdict step) refl c.defined
+  stepping k i step key left order c u = by_input (input_verdict step) c.defined
     where
-      by_verdict : (D : State) → open_draft (at run k) key ≡ Some D → input-verdict step ≡ None → (v : Option StepRefusal) → DraftVerdict step D v
-          → Gives c.result (step_answer v) (at run (k + 1)) (outcome v (with_change (at run k) (opened (made step D))) (at run k)) → Turn k
-      by_verdict D mine clean (Some w) v g = refused k (W.Step w) (c.answer ∙ ap (told A.Stepped) g.answer) g.after u
-      by_verdict D mine clean None v g =
+      by_verdict : (D E : State) → open_draft (at run k) key ≡ Some D → (v : Result (Unit {0}) StepRefusal) → Stepped step D v E
+          → Gives c.result (step_answer v) (at run (k + 1)) (after_step v (at run k) E) → Turn k
+      by_verdict D E mine (Err w) v g = refused k (W.Step w) (c.answer ∙ ap (told A.Stepped) g.answer) g.after u
+      by_verdict D E mine (Ok y) v g =
           let accepted : run.answer k ≡ A.Stepped = c.answer ∙ ap (told A.Stepped) g.answer in
-          let verdict : Verdict step D None = subst (λ (o : Option StepRefusal). MatchOption o (DraftVerdict step D None) (λ w. ◌≡◌ {A = Option StepRefusal} None (Some w))) (sym clean) v in
           let so_far = widened (Holds run k) (Holds run (k + 1)) (held_on k (λ o. let z = sym (ap tag accepted) ∙ o in omega arith)) (released (at run k)) D
           (drafted (Holds run k) (at run k) key D mine u) in
           let now_held : Holds run (k + 1) step = record {
@@ -125,21 +123,21 @@ module _ {Wr : Writing} {start : Scene} {orders : List Order} {n : ℕ} (run : R
             made = record { place = i; order = order; accepted = accepted };
             same_change = λ j after before e. absurd (omega arith);
           } in
-          advanced k 3 (with_change (at run k) (opened (made step D))) (ap tag accepted) (λ o. omega arith) g.after refl
-          (record { sound = u.sound; valid = u.valid; change = stepped step so_far now_held verdict refl })
+          advanced k 3 (with_change (at run k) (opened E)) (ap tag accepted) (λ o. omega arith) g.after refl
+          (record { sound = u.sound; valid = u.valid; change = stepped step so_far now_held v })
 
-      by_draft : (o : Option State) → open_draft (at run k) key ≡ o → input-verdict step ≡ None
-          → MatchOption o (Gives c.result (Err (W.Ticket (step-slot step))) (at run (k + 1)) (at run k)) (λ D. StepTaken (at run k) step D c.result (at run (k + 1))) → Turn k
-      by_draft None mine clean g = refused k (W.Ticket (step-slot step)) (c.answer ∙ ap (told A.Stepped) g.answer) g.after u
-      by_draft (Some D) mine clean g = by_verdict D mine clean g.found g.verdict g.gives
+      by_draft : (o : Option State) → open_draft (at run k) key ≡ o
+          → MatchOption o (Gives c.result (Err (W.Ticket (step_slot step))) (at run (k + 1)) (at run k)) (λ D. StepTaken (at run k) step D c.result (at run (k + 1))) → Turn k
+      by_draft None mine g = refused k (W.Ticket (step_slot step)) (c.answer ∙ ap (told A.Stepped) g.answer) g.after u
+      by_draft (Some D) mine g = by_verdict D g.draft mine g.result g.stepped g.gives
 
-      by_input : (v : Option StepRefusal) → input-verdict step ≡ v
+      by_input : (v : Option StepRefusal)
           → MatchOption v
-          (MatchOption (open_draft (at run k) key) (Gives c.result (Err (W.Ticket (step-slot step))) (at run (k + 1)) (at run k))
+          (MatchOption (open_draft (at run k) key) (Gives c.result (Err (W.Ticket (step_slot step))) (at run (k + 1)) (at run k))
           (λ D. StepTaken (at run k) step D c.result (at run (k + 1))))
           (λ w. Gives c.result (Err (W.Step w)) (at run (k + 1)) (at run k)) → Turn k
-      by_input (Some w) clean g = refused k (W.Step w) (c.answer ∙ ap (told A.Stepped) g.answer) g.after u
-      by_input None clean g = by_draft (open_draft (at run k) key) refl clean g
+      by_input (Some w) g = refused k (W.Step w) (c.answer ∙ ap (told A.Stepped) g.answer) g.after u
+      by_input None g = by_draft (open_draft (at run k) key) refl g
 
   -- ── check ──
 

@@ -1,5 +1,5 @@
 -- What holds of an engine at every moment, with the steps that its change in preparation held so far.
-use Rattle.std.proofs.Common.{◌≡◌, ℕ, ◌≤◌, Bool, true, false, cond, Some, None, Option, sym, refl, ap, subst, arith}
+use Rattle.std.proofs.Common.{◌≡◌, ℕ, ◌≤◌, Bool, true, false, cond, Some, None, Option, ap, subst, arith}
 use Rattle.model.specs.Sizes.{size}
 use Rattle.drafts.specs.Steps.{State}
 use Rattle.drafts.specs.declared.step.Step.{Step}

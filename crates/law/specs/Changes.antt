@@ -6,7 +6,6 @@ use Rattle.law.specs.Orders.{Scene}
 use Rattle.law.specs.Runs.{Run, order_at}
 use Rattle.law.specs.declared.order.Order.{Order}
 use Rattle.law.specs.declared.order.Order.TheVariants as O
-use Rattle.law.specs.declared.order.Answer.{Answer}
 use Rattle.law.specs.declared.order.Answer.TheVariants as A
 
 module _ {W : Writing} {start : Scene} {orders : List Order} {n : ℕ} (run : Run W start orders n) where

@@ -1,5 +1,5 @@
 -- What an order does: the call that it makes, with the ticket in its place, answers and leaves what the call's own definition says.
-use Rattle.std.specs.Prelude.{◌≡◌, ℕ, Bool, true, false, Some, None, Ok, Err, Option, Result, MatchOption, slice_set}
+use Rattle.std.specs.Prelude.{◌≡◌, Bool, true, false, Some, None, Ok, Err, Option, Result, MatchOption, slice_set}
 use Rattle.bits.specs.declared.Bits.{Bits}
 use Rattle.transfer.specs.Contents.{Writing}
 use Rattle.previews.specs.declared.preview.Preview.{Preview}

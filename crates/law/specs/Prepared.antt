@@ -1,8 +1,8 @@
 -- What accepted steps make of a model and its rules, one after another.
-use Rattle.std.specs.Prelude.{◌≡◌, ℕ, Some, None}
+use Rattle.std.specs.Prelude.{◌≡◌, ℕ, Some, Ok}
 use Rattle.rules.specs.Trees.{Tree}
 use Rattle.answers.specs.Validity.{NamesStand}
-use Rattle.drafts.specs.Steps.{State, Verdict, made}
+use Rattle.drafts.specs.Steps.{State, Stepped}
 use Rattle.drafts.specs.declared.step.Step.{Step}
 use Rattle.effects.specs.Sound.{Sound}
 use Rattle.law.specs.Kinds.{AnyStep, IsSplit, IsSplitOrJoin}
@@ -11,7 +11,7 @@ use Rattle.law.specs.People.{SamePeople, NobodyLost}
 -- D is what accepted steps of a kind, in order, make of R.
 pub data Prepared (Kind : Step → Type 0) (R : State) : State → Type 0 where
   copied : {D : State} → D ≡ R → Prepared Kind R D
-  stepped : {D E : State} (step : Step) → Prepared Kind R D → Kind step → Verdict step D None → E ≡ made step D → Prepared Kind R E
+  stepped : {D E : State} (step : Step) → Prepared Kind R D → Kind step → Stepped step D (Ok tt) E → Prepared Kind R E
 
 -- The model is sound, and every entity that a rule names stands.
 pub record Firm (S : State) : Type 0 where

@@ -1,7 +1,6 @@
 -- A run: an engine is made, and orders follow one after another.
 use Rattle.std.specs.Prelude.{◌≡◌, ℕ, ◌+◌, ◌<◌, List, slice_index_or}
-use Rattle.transfer.specs.Contents.{Content, Writing}
-use Rattle.engine.specs.Moments.{Moment}
+use Rattle.transfer.specs.Contents.{Writing}
 use Rattle.law.specs.Orders.{Scene, Obeys}
 use Rattle.law.specs.declared.order.Order.{Order}
 use Rattle.law.specs.declared.order.Order.TheVariants as O

@@ -13,7 +13,7 @@ use model::store::Store;
 
 // Opens a change, if the place is free for its ticket.
 fn open<S: Store>(engine: &mut Engine<S>, purse: &mut [Option<Ticket>], i: usize) -> Answer
-    ensures { Obeys (writing S.Store) (O.Open i) (scene S.Reading S.Store engine.old purse.old) result (scene S.Reading S.Store engine.new purse.new) }
+    ensures { Obeys (writing S.Store.own) (O.Open i) (scene S.Reading S.Store.own engine.old purse.old) result (scene S.Reading S.Store.own engine.new purse.new) }
 {
     if i >= purse.len() {
         return Answer::NoCall;
@@ -33,7 +33,7 @@ fn open<S: Store>(engine: &mut Engine<S>, purse: &mut [Option<Ticket>], i: usize
 
 // Edits the draft with the open ticket, which stays in its place.
 fn step<S: Store>(engine: &mut Engine<S>, purse: &[Option<Ticket>], i: usize, step: Step) -> Answer
-    ensures { Obeys (writing S.Store) (O.Step i step.entry) (scene S.Reading S.Store engine.old purse.now) result (scene S.Reading S.Store engine.new purse.now) }
+    ensures { Obeys (writing S.Store.own) (O.Step i step.entry) (scene S.Reading S.Store.own engine.old purse.now) result (scene S.Reading S.Store.own engine.new purse.now) }
 {
     if i >= purse.len() {
         return Answer::NoCall;
@@ -49,7 +49,7 @@ fn step<S: Store>(engine: &mut Engine<S>, purse: &[Option<Ticket>], i: usize, st
 
 // Checks the change. The place holds a cleared ticket then, or the open one again.
 fn check<S: Store>(engine: &mut Engine<S>, purse: &mut [Option<Ticket>], i: usize) -> Answer
-    ensures { Obeys (writing S.Store) (O.Check i) (scene S.Reading S.Store engine.old purse.old) result (scene S.Reading S.Store engine.new purse.new) }
+    ensures { Obeys (writing S.Store.own) (O.Check i) (scene S.Reading S.Store.own engine.old purse.old) result (scene S.Reading S.Store.own engine.new purse.new) }
 {
     let Some(ticket) = take_open(purse, i) else {
         return Answer::NoCall;
@@ -68,7 +68,7 @@ fn check<S: Store>(engine: &mut Engine<S>, purse: &mut [Option<Ticket>], i: usiz
 
 // Reopens the change. The place holds an open ticket then, or the cleared one again.
 fn reopen<S: Store>(engine: &mut Engine<S>, purse: &mut [Option<Ticket>], i: usize) -> Answer
-    ensures { Obeys (writing S.Store) (O.Reopen i) (scene S.Reading S.Store engine.old purse.old) result (scene S.Reading S.Store engine.new purse.new) }
+    ensures { Obeys (writing S.Store.own) (O.Reopen i) (scene S.Reading S.Store.own engine.old purse.old) result (scene S.Reading S.Store.own engine.new purse.new) }
 {
     let Some(ticket) = take_cleared(purse, i) else {
         return Answer::NoCall;
@@ -87,7 +87,7 @@ fn reopen<S: Store>(engine: &mut Engine<S>, purse: &mut [Option<Ticket>], i: usi
 
 // Releases the change. The place is empty then, or holds the cleared ticket again.
 fn release<S: Store>(engine: &mut Engine<S>, purse: &mut [Option<Ticket>], i: usize) -> Answer
-    ensures { Obeys (writing S.Store) (O.Release i) (scene S.Reading S.Store engine.old purse.old) result (scene S.Reading S.Store engine.new purse.new) }
+    ensures { Obeys (writing S.Store.own) (O.Release i) (scene S.Reading S.Store.own engine.old purse.old) result (scene S.Reading S.Store.own engine.new purse.new) }
 {
     let Some(ticket) = take_cleared(purse, i) else {
         return Answer::NoCall;
@@ -103,7 +103,7 @@ fn release<S: Store>(engine: &mut Engine<S>, purse: &mut [Option<Ticket>], i: us
 
 // Withdraws the change. The place is empty then, either way.
 fn withdraw<S: Store>(engine: &mut Engine<S>, purse: &mut [Option<Ticket>], i: usize) -> Answer
-    ensures { Obeys (writing S.Store) (O.Withdraw i) (scene S.Reading S.Store engine.old purse.old) result (scene S.Reading S.Store engine.new purse.new) }
+    ensures { Obeys (writing S.Store.own) (O.Withdraw i) (scene S.Reading S.Store.own engine.old purse.old) result (scene S.Reading S.Store.own engine.new purse.new) }
 {
     let Some(ticket) = take(purse, i) else {
         return Answer::NoCall;
@@ -116,7 +116,7 @@ fn withdraw<S: Store>(engine: &mut Engine<S>, purse: &mut [Option<Ticket>], i: u
 
 // Asks for the people of a slot.
 fn set<S: Store>(engine: &Engine<S>, slot: u8) -> Answer
-    ensures { (p : Purse) → Obeys (writing S.Store) (O.Set slot) (scene S.Reading S.Store engine.now p) result (scene S.Reading S.Store engine.now p) }
+    ensures { (p : Purse) → Obeys (writing S.Store.own) (O.Set slot) (scene S.Reading S.Store.own engine.now p) result (scene S.Reading S.Store.own engine.now p) }
 {
     match engine.set(slot) {
         Ok(people) => Answer::Set(people),
@@ -126,7 +126,7 @@ fn set<S: Store>(engine: &Engine<S>, slot: u8) -> Answer
 
 // Asks whether an actor qualifies.
 fn may<S: Store>(engine: &Engine<S>, slot: u8, actor: u8) -> Answer
-    ensures { (p : Purse) → Obeys (writing S.Store) (O.May slot actor) (scene S.Reading S.Store engine.now p) result (scene S.Reading S.Store engine.now p) }
+    ensures { (p : Purse) → Obeys (writing S.Store.own) (O.May slot actor) (scene S.Reading S.Store.own engine.now p) result (scene S.Reading S.Store.own engine.now p) }
 {
     match engine.may(slot, actor) {
         Ok(yes) => Answer::May(yes),
@@ -136,7 +136,7 @@ fn may<S: Store>(engine: &Engine<S>, slot: u8, actor: u8) -> Answer
 
 // Asks for a preview with the open ticket, which stays in its place.
 fn preview<S: Store>(engine: &Engine<S>, purse: &[Option<Ticket>], i: usize, slot: u8) -> Answer
-    ensures { Obeys (writing S.Store) (O.Preview i slot) (scene S.Reading S.Store engine.now purse.now) result (scene S.Reading S.Store engine.now purse.now) }
+    ensures { Obeys (writing S.Store.own) (O.Preview i slot) (scene S.Reading S.Store.own engine.now purse.now) result (scene S.Reading S.Store.own engine.now purse.now) }
 {
     if i >= purse.len() {
         return Answer::NoCall;
@@ -156,7 +156,7 @@ pub(crate) fn obey<S: Store>(
     purse: &mut [Option<Ticket>],
     order: Order,
 ) -> Answer
-    ensures { Obeys (writing S.Store) order.entry (scene S.Reading S.Store engine.old purse.old) result (scene S.Reading S.Store engine.new purse.new) }
+    ensures { Obeys (writing S.Store.own) order.entry (scene S.Reading S.Store.own engine.old purse.old) result (scene S.Reading S.Store.own engine.new purse.new) }
 {
     match order {
         Order::Open(i) => open(engine, purse, i),

@@ -18,7 +18,7 @@ pub fn run<S: Store>(
     orders: &[Order],
     answers: &mut [Answer],
 ) -> Engine<S>
-    ensures { Ran (writing S.Store) (record { engine = made (writing S.Store) (content S.Reading S.Store store) number; purse = purse.old }) orders.now answers.old (moment S.Reading S.Store result) purse.new answers.new }
+    ensures { Ran (writing S.Store.own) (record { engine = made (writing S.Store.own) (content S.Reading S.Store.own store) number; purse = purse.old }) orders.now answers.old (moment S.Reading S.Store.own result) purse.new answers.new }
 {
     let mut engine = Engine::new(store, number);
     let n = orders.len().min(answers.len());

@@ -30,7 +30,8 @@ fn shape_fault(nodes: &[Node]) -> Option<Fault>
     let mut trees: usize = 0;
     for (i, node) in nodes.iter().enumerate() {
         if node.is_operator() {
-            if trees < 2 {
+            let few = trees < 2;
+            if few {
                 return Some(Fault::Shape(i as u8));
             }
             trees -= 1;

@@ -28,7 +28,7 @@ fn lacking<A: Reading, B: Reading>(held: &A, by: &B, sort: u8) -> Bits
 
 // Drops what the model lacks of the facts of one sort and one lower number.
 fn drop_upper<S: Store, R: Reading>(store: &mut S, model: &R, sort: u8, x: u8)
-    ensures { content S.Reading S.Store store.new ≡ each_upper (drop_surplus (writing S.Store) (R.Reading.held model.now)) sort x (content S.Reading S.Store store.old) }
+    ensures { content S.Reading S.Store.own store.new ≡ each_upper (drop_surplus (writing S.Store.own) (R.Reading.held model.now)) sort x (content S.Reading S.Store.own store.old) }
 {
     for y in 0..64u8 {
         let fact = Fact { sort, x, y };
@@ -41,7 +41,7 @@ fn drop_upper<S: Store, R: Reading>(store: &mut S, model: &R, sort: u8, x: u8)
 // Drops what the model lacks of the facts of one sort.
 fn drop_sort<S: Store, R: Reading>(store: &mut S, model: &R, sort: u8)
     ensures possible { OnlyPossible (S.Reading.held store.old) × OnlyPossible (R.Reading.held model.now) }
-    ensures dropped { content S.Reading S.Store store.new ≡ each_of_sort (drop_surplus (writing S.Store) (R.Reading.held model.now)) sort (content S.Reading S.Store store.old) }
+    ensures dropped { content S.Reading S.Store.own store.new ≡ each_of_sort (drop_surplus (writing S.Store.own) (R.Reading.held model.now)) sort (content S.Reading S.Store.own store.old) }
 {
     let surplus = lacking(store, model, sort);
     for x in 0..64u8 {
@@ -53,7 +53,7 @@ fn drop_sort<S: Store, R: Reading>(store: &mut S, model: &R, sort: u8)
 
 // Puts what the store lacks of the facts of one sort and one lower number.
 fn put_upper<S: Store, R: Reading>(store: &mut S, model: &R, sort: u8, x: u8)
-    ensures { content S.Reading S.Store store.new ≡ each_upper (put_missing (writing S.Store) (R.Reading.held model.now)) sort x (content S.Reading S.Store store.old) }
+    ensures { content S.Reading S.Store.own store.new ≡ each_upper (put_missing (writing S.Store.own) (R.Reading.held model.now)) sort x (content S.Reading S.Store.own store.old) }
 {
     for y in 0..64u8 {
         let fact = Fact { sort, x, y };
@@ -65,7 +65,7 @@ fn put_upper<S: Store, R: Reading>(store: &mut S, model: &R, sort: u8, x: u8)
 
 // Puts what the store lacks of the facts of one sort.
 fn put_sort<S: Store, R: Reading>(store: &mut S, model: &R, sort: u8)
-    ensures { content S.Reading S.Store store.new ≡ each_of_sort (put_missing (writing S.Store) (R.Reading.held model.now)) sort (content S.Reading S.Store store.old) }
+    ensures { content S.Reading S.Store.own store.new ≡ each_of_sort (put_missing (writing S.Store.own) (R.Reading.held model.now)) sort (content S.Reading S.Store.own store.old) }
 {
     let missing = lacking(model, store, sort);
     for x in 0..64u8 {
@@ -78,7 +78,7 @@ fn put_sort<S: Store, R: Reading>(store: &mut S, model: &R, sort: u8)
 /// Makes the store hold what the model holds: first what the model lacks is dropped, ascending by fact word, then what the store lacks is put,
 /// ascending. A model for which there is room is then held whole, and nothing else. Where there is none, puts are turned down and the rest goes on.
 pub fn write_out<S: Store, R: Reading>(store: &mut S, model: &R)
-    ensures written { content S.Reading S.Store store.new ≡ written_out (writing S.Store) (R.Reading.held model.now) (content S.Reading S.Store store.old) }
+    ensures written { content S.Reading S.Store.own store.new ≡ written_out (writing S.Store.own) (R.Reading.held model.now) (content S.Reading S.Store.own store.old) }
     ensures exact { size (R.Reading.held model.now) ≤ S.Store.capacity store.old → S.Reading.held store.new ≡ R.Reading.held model.now }
 {
     'drops: for sort in 0..7u8 {

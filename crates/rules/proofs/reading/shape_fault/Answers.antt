@@ -5,19 +5,19 @@ use Rattle.rules.specs.declared.fault.Fault.TheVariants.{Shape}
 use Rattle.rules.specs.Scan.{bad_shape}
 use Rattle.rules.proofs.Steps.{shape_leaf, shape_operator, shape_short}
 use Rattle.rules.proofs.reading.shape_fault.Goals as goal
-use Rattle.rules.proofs.reading.shape_fault.Goals.{then-is_operator+else-trees-lt2, else-is_operator}
+use Rattle.rules.proofs.reading.shape_fault.Goals.{then-is_operator+else-few, else-is_operator}
 
-pub returns-then-trees-lt2 : goal.returns-then-trees-lt2
-returns-then-trees-lt2 c =
-    sym (c.loop-i.invariant.0 ∙ shape_short c.args.nodes.now c.loop-i.i _ c.loop-i-test.true c.loop-i.trees (sym c.is_operator.ensures ∙ c.if-is_operator.true) c.if-trees-lt2.true)
+pub returns-then-few : goal.returns-then-few
+returns-then-few c =
+    sym (c.loop-i.invariant.0 ∙ shape_short c.args.nodes.now c.loop-i.i _ c.loop-i-test.true c.loop-i.trees (sym c.is_operator.ensures ∙ c.if-is_operator.true) c.if-few.true)
 
 pub loop-i-preserved : goal.loop-i-preserved
 loop-i-preserved c =
     let ns = c.args.nodes.now in
     let i = c.loop-i.i in
     elim c.if-is_operator.branch [
-      | then-is_operator+else-trees-lt2 w ↦ (
-        rw w.trees-is (c.loop-i.invariant.0 ∙ shape_operator ns i _ c.loop-i-test.true c.loop-i.trees (sym c.is_operator.ensures ∙ w.if-is_operator.true) w.if-trees-lt2.false),
+      | then-is_operator+else-few w ↦ (
+        rw w.trees-is (c.loop-i.invariant.0 ∙ shape_operator ns i _ c.loop-i-test.true c.loop-i.trees (sym c.is_operator.ensures ∙ w.if-is_operator.true) w.if-few.false),
         omega (arith, w.trees-is),
       )
       | else-is_operator w ↦ (

@@ -14,8 +14,8 @@ write-requires c =
     let F = facts_of c.args.self.now.board in
     entity_possible e.kind e.number (passed (not (entity_range e.kind e.number)) (Range 255) (refused_if (F e.kind e.number 0) Standing None) (sym c.judge_add.ensures ∙ c.in-None.is)).0
 
-pub returns-in-Some : goal.returns-in-Some
-returns-in-Some c = is-refused _ _ _ c.in-Some.refusal (sym c.judge_add.ensures ∙ c.in-Some.is)
+pub returns-in-Some-clause-stepped : goal.returns-in-Some-clause-stepped
+returns-in-Some-clause-stepped c = is-refused _ _ _ c.in-Some.refusal (sym c.judge_add.ensures ∙ c.in-Some.is)
 
-pub returns-in-None : goal.returns-in-None
-returns-in-None c = is_taken _ _ _ _ (sym c.judge_add.ensures ∙ c.in-None.is) c.write.ensures.facts (λ i. ap (λ (b : Book). slots_of b i) c.write.ensures.book)
+pub returns-in-None-clause-stepped : goal.returns-in-None-clause-stepped
+returns-in-None-clause-stepped c = is_taken _ _ _ _ (sym c.judge_add.ensures ∙ c.in-None.is) c.write.ensures.facts (λ i. ap (λ (b : Book). slots_of b i) c.write.ensures.book)

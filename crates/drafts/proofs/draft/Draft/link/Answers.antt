@@ -4,8 +4,8 @@ use Rattle.drafts.specs.Slots.{slots_of}
 use Rattle.drafts.proofs.Taken.{is-refused, is_taken}
 use Rattle.drafts.proofs.draft.Draft.link.Goals as goal
 
-pub returns-in-Some : goal.returns-in-Some
-returns-in-Some c = λ circle d. is-refused _ _ _ c.in-Some.refusal (sym (c.judge_link.ensures.verdict circle d) ∙ c.in-Some.is)
+pub returns-in-Some-clause-stepped : goal.returns-in-Some-clause-stepped
+returns-in-Some-clause-stepped c = λ circle d. is-refused _ _ _ c.in-Some.refusal (sym (c.judge_link.ensures.verdict circle d) ∙ c.in-Some.is)
 
-pub returns-in-None : goal.returns-in-None
-returns-in-None c = λ circle d. is_taken _ _ _ _ (sym (c.judge_link.ensures.verdict circle d) ∙ c.in-None.is) c.write.ensures.facts (λ i. ap (λ (b : Book). slots_of b i) c.write.ensures.book)
+pub returns-in-None-clause-stepped : goal.returns-in-None-clause-stepped
+returns-in-None-clause-stepped c = λ circle d. is_taken _ _ _ _ (sym (c.judge_link.ensures.verdict circle d) ∙ c.in-None.is) c.write.ensures.facts (λ i. ap (λ (b : Book). slots_of b i) c.write.ensures.book)

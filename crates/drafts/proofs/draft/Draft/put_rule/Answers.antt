@@ -9,8 +9,8 @@ use Rattle.drafts.proofs.BookSlots.{read_tree}
 use Rattle.drafts.proofs.Taken.{is_taken}
 use Rattle.drafts.proofs.draft.Draft.put_rule.Goals as goal
 
-pub returns-in-Ok : goal.returns-in-Ok
-returns-in-Ok c =
+pub returns-in-Ok-clause-stepped : goal.returns-in-Ok-clause-stepped
+returns-in-Ok-clause-stepped c =
     let slot = c.args.slot in
     let list = c.args.list.now in
     let B = slots_of c.args.self.now.book in

@@ -1,9 +1,8 @@
-use Rattle.std.proofs.Common.{◌≡◌, ℕ, ◌≤◌, ap, ◌∙◌, arith}
+use Rattle.std.proofs.Common.{◌≡◌, ap, ◌∙◌, arith}
 use Rattle.model.specs.Facts.{Facts, nothing}
-use Rattle.model.specs.Sizes.{size}
 use Rattle.model.proofs.Counting.{size_none}
 use Rattle.board.specs.Holding.{facts_of}
-use Rattle.transfer.specs.Contents.{Content, content, writing}
+use Rattle.transfer.specs.Contents.{content, writing}
 use Rattle.transfer.specs.Orders.{written_out}
 use Rattle.drafts.specs.Slots.{tree_in}
 use Rattle.engine.specs.Moments.{idle}

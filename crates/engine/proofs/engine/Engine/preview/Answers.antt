@@ -1,4 +1,4 @@
-use Rattle.std.proofs.Common.{ap, ◌∙◌, rules}
+use Rattle.std.proofs.Common.{ap, rules}
 use Rattle.rules.specs.Rules.{rule_tree}
 use Rattle.drafts.specs.Slots.{tree_in}
 use Rattle.drafts.specs.States.{state_of}

@@ -1,3 +1,4 @@
+-- A fact about two tests, for what is in one set of actors and outside another.
 use Rattle.std.specs.Prelude.{◌≡◌, Bool, true, false, not, ◌&&◌, refl}
 use Rattle.bits.proofs.Laws.{apart}
 

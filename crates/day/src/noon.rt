@@ -1,0 +1,156 @@
+use crate::change::{Account, carry_out, make_steps};
+use crate::steps::plant_steps;
+use drafts::step::{Join, Step};
+use engine::engine::Engine;
+use engine::refusal::Refusal;
+use engine::ticket::Ticket;
+use model::store::Store;
+use plant::show::Shown;
+use rules::bytes::NodeBytes;
+use rules::fault::Numbers;
+use std::io;
+
+fn node(tag: u8, kind: u8, number: u8, mark: u8) -> NodeBytes {
+    NodeBytes {
+        tag,
+        kind,
+        number,
+        mark,
+    }
+}
+
+fn tell_refusal(rt: &HostRuntime, what: &str, numbers: Numbers) -> io::Result<()> {
+    println!(rt;
+        "  {what} is refused {} in layer {}, slot {}, node {}.",
+        numbers.number, numbers.layer, numbers.slot, numbers.node
+    )
+}
+
+// Prints how a change went.
+fn tell_change(rt: &HostRuntime, name: &str, went: Result<Account, Refusal>) -> io::Result<()> {
+    let account = match went {
+        Ok(account) => account,
+        Err(refusal) => return tell_refusal(rt, "The opening", refusal.numbers()),
+    };
+    println!(rt;
+        "  Change {} of engine {}: {name}; steps taken: {}.",
+        account.change, account.engine, account.taken
+    )?;
+    if let Some(numbers) = account.refused {
+        tell_refusal(rt, "A step", numbers)?;
+    }
+    for slot in 0..32u8 {
+        if let Some(preview) = account.previews[slot as usize] {
+            let people = Shown { set: preview.set };
+            println!(rt;
+                "    slot {slot} would have {people}: effect {}, difference {}",
+                preview.effect.number(),
+                preview.difference
+            )?;
+        }
+    }
+    match account.fault {
+        Some(numbers) => tell_refusal(rt, "The check", numbers),
+        None => println!(rt; "  It is cleared and released: {}.", account.released),
+    }
+}
+
+// Prints every released rule with its people.
+fn tell_rules<S: Store>(rt: &HostRuntime, engine: &Engine<S>) -> io::Result<()> {
+    for slot in 0..32u8 {
+        if let (Some(rule), Ok(set)) = (engine.book().rule(slot), engine.set(slot)) {
+            let people = Shown { set };
+            println!(rt; "    slot {slot}: {rule}: {people}")?;
+        }
+    }
+    Ok(())
+}
+
+// A rule for which nobody qualifies: the check refuses it. It is taken out again, the change is cleared and reopened, and then withdrawn.
+fn try_rule_for_nobody<S: Store>(engine: &mut Engine<S>) -> Result<(Numbers, bool), Refusal> {
+    let ticket = engine.open()?;
+    let nobody = [node(1, 2, 0, 1)];
+    let _ = make_steps(engine, &ticket, &[Step::PutRule(7, &nobody)]);
+    let (refusal, ticket) = match engine.check(ticket) {
+        Ok(cleared) => {
+            engine.withdraw(Ticket::Cleared(cleared))?;
+            return Ok((no_refusal(), false));
+        }
+        Err(refused) => refused,
+    };
+    let _ = make_steps(engine, &ticket, &[Step::RemoveRule(7)]);
+    let mended = match engine.check(ticket) {
+        Ok(cleared) => match engine.reopen(cleared) {
+            Ok(open) => {
+                engine.withdraw(Ticket::Open(open))?;
+                true
+            }
+            Err((_, cleared)) => {
+                engine.withdraw(Ticket::Cleared(cleared))?;
+                false
+            }
+        },
+        Err((_, open)) => {
+            engine.withdraw(Ticket::Open(open))?;
+            false
+        }
+    };
+    Ok((refusal.numbers(), mended))
+}
+
+fn no_refusal() -> Numbers {
+    Numbers {
+        number: 0,
+        layer: 0,
+        slot: 255,
+        node: 255,
+    }
+}
+
+/// Builds the plant through the engine, joins the two crews at noon, tries a rule for nobody, and prints the account.
+pub(crate) fn tell_noon<S: Store + Drop>(rt: &HostRuntime, name: &str, store: S) -> io::Result<()> {
+    let mut engine = Engine::new(store, 7);
+    let told = tell_changes(rt, name, &mut engine);
+    let _ = engine.into_store();
+    told
+}
+
+fn tell_changes<S: Store>(rt: &HostRuntime, name: &str, engine: &mut Engine<S>) -> io::Result<()> {
+    println!(rt; "Noon, over the {name}: units 1 and 2 are the early and the late crew.")?;
+    let built = carry_out(engine, &plant_steps());
+    tell_change(rt, "the plant is built", built)?;
+    let rework = [node(0, 1, 1, 0), node(0, 2, 1, 0), node(2, 0, 0, 0)];
+    let administration = [node(0, 1, 0, 1), node(1, 2, 2, 0), node(2, 0, 0, 0)];
+    let rules = carry_out(
+        engine,
+        &[Step::PutRule(0, &rework), Step::PutRule(5, &administration)],
+    );
+    tell_change(
+        rt,
+        "rework in slot 0 is for role 1 of the early crew, administration in slot 5 for role 0 and those below, not of the late crew",
+        rules,
+    )?;
+    tell_rules(rt, engine)?;
+    let joined = carry_out(
+        engine,
+        &[Step::Join(Join {
+            kind: 2,
+            first: 1,
+            second: 2,
+            into: 3,
+        })],
+    );
+    tell_change(rt, "units 1 and 2 become unit 3", joined)?;
+    tell_rules(rt, engine)?;
+    match try_rule_for_nobody(engine) {
+        Ok((numbers, mended)) => {
+            println!(rt; "  A change puts a rule for nobody into slot 7.")?;
+            tell_refusal(rt, "Its check", numbers)?;
+            println!(rt;
+                "  With the rule taken out it is cleared, reopened and withdrawn: {mended}."
+            )?;
+        }
+        Err(refusal) => tell_refusal(rt, "A call", refusal.numbers())?,
+    }
+    tell_rules(rt, engine)
+}
