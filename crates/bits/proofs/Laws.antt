@@ -129,6 +129,10 @@ bit-some =
     low : (w : ℕ) → w / 2 ≡ 0 → eqb (w % 2) 1 ≡ false → w ≡ 0
     low w z e = omega (arith, eqb-false (w % 2) 1 e)
 
+-- where not every number is out, one is in
+pub some_in : (w : ℕ) → (((k : ℕ) → bit w k ≡ false) → ⊥) → (i : ℕ) × (bit w i ≡ true)
+some_in w h = bit-some w (λ z. h (λ k. ap (λ (v : ℕ). bit v k) z ∙ bit-none k))
+
 -- words with the same bits are the same
 pub bit-same : (a b : ℕ) → ((i : ℕ) → bit a i ≡ bit b i) → a ≡ b
 bit-same =

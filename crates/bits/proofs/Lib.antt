@@ -2,3 +2,4 @@ pub mod Laws
 pub mod Totals
 mod Lowest
 mod Ones
+pub mod Ascending

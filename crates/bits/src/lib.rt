@@ -1,9 +1,11 @@
 //! Sets of numbers from 0 to 63, each in one word.
 #![tactic(auto)]
 
-ghost use Rattle.std.specs.Prelude.{◌≡◌, ℕ, ◌<◌, true, false, not, ◌&&◌, ◌||◌, Decides, MatchOption, ◌==◌, nat_lt};
+ghost use Rattle.std.specs.Prelude.{◌≡◌, ℕ, ◌^◌, ◌<◌, true, false, not, ◌&&◌, ◌||◌, Decides, MatchOption, ◌==◌, nat_lt};
 ghost use Rattle.bits.specs.Bit.{bit};
+ghost use Rattle.bits.specs.Members.{members};
 ghost use Rattle.bits.specs.Total.{tally};
+ghost use Rattle.std.specs.Iterator.{YieldsFirst, item_count};
 
 /// A set of numbers from 0 to 63: bit k of the word says whether k is in it.
 #[derive(Clone, Copy, PartialEq, Eq, Debug)]
@@ -90,11 +92,18 @@ impl Bits {
     pub fn lowest(self) -> Option<u8>
         ensures { MatchOption result ((k : ℕ) → bit self.word k ≡ false) (λ i. (bit self.word i ≡ true) × ((k : ℕ) → k < i → bit self.word k ≡ false)) }
     {
-        if self.word == 0 {
+        if self.is_empty() {
             None
         } else {
             Some(self.word.trailing_zeros() as u8)
         }
+    }
+
+    /// Whether nothing is in the set.
+    pub fn is_empty(self) -> bool
+        ensures { Decides result ((k : ℕ) → bit self.word k ≡ false) }
+    {
+        self.word == 0
     }
 
     /// How many numbers are in the set.
@@ -102,6 +111,39 @@ impl Bits {
         ensures { result ≡ tally (bit self.word) 64 }
     {
         self.word.count_ones()
+    }
+}
+
+/// The numbers of a set that are still to come, ascending.
+#[derive(Clone, Copy)]
+pub struct Members {
+    rest: Bits,
+    ghost fits: { rest.word < 2 ^ 64 },
+}
+
+impl Iterator for Members {
+    type Item = u8;
+
+    ghost next_gives = { YieldsFirst (λ m. members m.rest.word) };
+
+    ghost remaining = { item_count (λ m. members m.rest.word) };
+
+    fn next(&mut self) -> Option<u8> {
+        let lowest = self.rest.lowest()?;
+        self.rest = self.rest.without(lowest);
+        Some(lowest)
+    }
+}
+
+impl IntoIterator for Bits {
+    type Item = u8;
+
+    type IntoIter = Members;
+
+    ghost into_iter_gives = { λ set m. members m.rest.word ≡ members set.word };
+
+    fn into_iter(self) -> Members {
+        Members { rest: self }
     }
 }
 

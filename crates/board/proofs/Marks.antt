@@ -4,7 +4,7 @@ use Rattle.std.proofs.lemmas.List.{get_or-set_same, get_or-set_other}
 use Rattle.std.proofs.lemmas.Bool.{eqb-true, eq-eqb, ne_eqb, cases_Bool, cases_eq, cases_lt, cond-true, cond-false, and_left, and_right, and_parts, and_from, or_left, or_right, lt-ltb, le-ltb, both_ways, true≢false}
 use Rattle.bits.specs.Bit.{bit}
 use Rattle.bits.proofs.Laws.{bit-none, bit_past}
-use Rattle.model.specs.Facts.{Facts, OnlyPossible, possible, same, placed}
+use Rattle.model.specs.Facts.{Facts, possible, same, placed}
 use Rattle.model.proofs.Possible.{Parts, parts, whole, not_same}
 use Rattle.model.specs.Sizes.{size, takes}
 use Rattle.model.proofs.Counting.{size-put, size-most}
@@ -18,10 +18,6 @@ at rows s x y can = ap (λ b. b && bit (get_or rows (row_place s y) 0) x) can
 pub not_at : (rows : List ℕ) (s x y : ℕ) → possible s x y ≡ false → marked rows s x y ≡ false
 unfolding marked
 not_at rows s x y h = and_left (possible s x y) (bit (get_or rows (row_place s y) 0) x) h
-
-pub only_possible : (rows : List ℕ) → OnlyPossible (marked rows)
-unfolding marked
-only_possible rows s x y h = (and_parts (possible s x y) (bit (get_or rows (row_place s y) 0) x) h).0
 
 getD_zeros : (n k : ℕ) → ◌≡◌ {A = ℕ} (get_or (replicate n 0) k 0) 0
 getD_zeros zero k = refl
@@ -130,10 +126,6 @@ without-cond true true = refl
 without-cond true false = refl
 without-cond false true = refl
 without-cond false false = refl
-
-pub either_way : {A : Type 0} (b : Bool) (x : A) → x ≡ cond b x x
-either_way true x = refl
-either_way false x = refl
 
 -- there is room for every possible fact
 pub takes-possible : (S : Facts) (s x y : ℕ) → possible s x y ≡ true → takes S 16576 s x y ≡ true

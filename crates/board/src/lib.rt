@@ -4,10 +4,12 @@
 ghost use Rattle.std.specs.Prelude.{◌≡◌, ℕ, ◌<◌, true, false, ◌&&◌, [], if◌then◌else◌, ◌==◌, nat_eq};
 ghost use Rattle.bits.specs.Bit.{bit};
 ghost use Rattle.board.specs.Rows.{marked, row_place};
+ghost use Rattle.board.specs.OnlyPossible.{only_possible};
 ghost use Rattle.model.specs.Facts.{OnlyPossible, placed, possible};
 
 use bits::Bits;
 use model::fact::Fact;
+use model::possible_fact::PossibleFact;
 use model::reading::Reading;
 use model::store::Store;
 
@@ -18,6 +20,7 @@ const ROWS: usize = 259;
 const CAPACITY: usize = 16576;
 
 /// Facts as rows of bits. A row has the facts of one sort and one upper number y, with bit x for each lower number x.
+// It has no `Model`: the value would be a set of facts, and a function has no code. All rows lie in one array of fixed size: nothing is allocated.
 #[derive(Clone, Copy)]
 pub struct Board {
     rows: [u64; 259],
@@ -36,28 +39,32 @@ impl Board {
     pub fn set_row(&mut self, sort: u8, y: u8, row: Bits)
         ensures { (s x v : ℕ) → marked self.new.rows s x v ≡ (if nat_eq s sort && v == y then possible s x v && bit row.word x else marked self.old.rows s x v) }
     {
-        let lowest = Fact { sort, x: 0, y };
-        if lowest.is_possible() {
-            overwrite(&mut self.rows, sort, y, row);
+        if let Ok(lowest) = PossibleFact::try_from(Fact { sort, x: 0, y }) {
+            self.rows[place(lowest)] = row.word;
         }
+    }
+
+    // Writes a fact in or out.
+    fn write(&mut self, fact: PossibleFact, held: bool)
+        ensures { marked self.new.rows ≡ placed (marked self.old.rows) fact.fact.sort fact.fact.x fact.fact.y held }
+    {
+        let i = place(fact);
+        let row = Bits { word: self.rows[i] };
+        let new = if held {
+            row.with(fact.fact.x)
+        } else {
+            row.without(fact.fact.x)
+        };
+        self.rows[i] = new.word;
     }
 }
 
-// Writes a whole possible row.
-fn overwrite(rows: &mut [u64; 259], sort: u8, y: u8, row: Bits)
-    requires { possible sort 0 y ≡ true }
-    ensures { (s x v : ℕ) → marked rows.new s x v ≡ (if nat_eq s sort && v == y then possible s x v && bit row.word x else marked rows.old s x v) }
-{
-    rows[place(sort, y)] = row.word;
-}
-
-// Where the row of a possible fact lies.
-fn place(sort: u8, y: u8) -> usize
-    requires sort { sort < 7 }
-    requires upper { y < 64 }
-    ensures value { result ≡ row_place sort y }
+// Where the row of the fact lies.
+fn place(fact: PossibleFact) -> usize
+    ensures value { result ≡ row_place fact.fact.sort fact.fact.y }
     ensures within { result < 259 }
 {
+    let Fact { sort, x: _, y } = fact.fact;
     if sort < 3 {
         sort as usize
     } else {
@@ -65,33 +72,17 @@ fn place(sort: u8, y: u8) -> usize
     }
 }
 
-// The row of a sort and an upper number, with nothing in it where no such fact is possible.
+// The row of a sort and an upper number, with nothing in it where no such fact is possible. It takes the rows: that each fits its word is known of a
+// lent array, and not of a board's field.
 fn read(rows: &[u64; 259], sort: u8, y: u8) -> Bits
-    ensures value { (x : ℕ) → bit result.word x ≡ marked rows.now sort x y }
-    ensures possible { OnlyPossible (marked rows.now) }
+    ensures { (x : ℕ) → bit result.word x ≡ marked rows.now sort x y }
 {
-    if (Fact { sort, x: 0, y }).is_possible() {
-        Bits {
-            word: rows[place(sort, y)],
-        }
-    } else {
-        Bits::none()
+    match PossibleFact::try_from(Fact { sort, x: 0, y }) {
+        Ok(lowest) => Bits {
+            word: rows[place(lowest)],
+        },
+        Err(_) => Bits::none(),
     }
-}
-
-// Writes a possible fact in or out.
-fn write(rows: &mut [u64; 259], fact: Fact, held: bool)
-    requires { possible fact.sort fact.x fact.y ≡ true }
-    ensures { marked rows.new ≡ placed (marked rows.old) fact.sort fact.x fact.y held }
-{
-    let i = place(fact.sort, fact.y);
-    let row = Bits { word: rows[i] };
-    let new = if held {
-        row.with(fact.x)
-    } else {
-        row.without(fact.x)
-    };
-    rows[i] = new.word;
 }
 
 impl Reading for Board {
@@ -104,6 +95,8 @@ impl Reading for Board {
     fn row(&self, sort: u8, y: u8) -> Bits {
         read(&self.rows, sort, y)
     }
+
+    ghost only_possible = { λ b. only_possible b.rows };
 }
 
 impl Store for Board {
@@ -130,16 +123,16 @@ impl Store for Board {
     }
 
     fn put(&mut self, fact: Fact) -> bool {
-        if !fact.is_possible() {
+        let Ok(fact) = PossibleFact::try_from(fact) else {
             return false;
-        }
-        write(&mut self.rows, fact, true);
+        };
+        self.write(fact, true);
         true
     }
 
     fn drop_fact(&mut self, fact: Fact) {
-        if fact.is_possible() {
-            write(&mut self.rows, fact, false);
+        if let Ok(fact) = PossibleFact::try_from(fact) {
+            self.write(fact, false);
         }
     }
 }

@@ -1,8 +1,8 @@
 -- Facts among the words.
-use Rattle.std.proofs.Common.{◌≡◌, ℕ, ◌/◌, ◌%◌, ◌<◌, ◌≤◌, Bool, true, false, ◌&&◌, eqb, List, get_or, Decides, sym, refl, ap, ◌∙◌, ⊎_elim, arith}
-use Rattle.std.proofs.lemmas.Bool.{cases_Bool, and_left, and_parts}
+use Rattle.std.proofs.Common.{◌≡◌, ℕ, ◌/◌, ◌%◌, ◌<◌, Bool, true, false, ◌&&◌, eqb, List, get_or, Decides, sym, refl, ap, ◌∙◌, subst, ⊎_elim, arith}
+use Rattle.std.proofs.lemmas.Bool.{cases_Bool, and_left, and_right, false_from_ne_true}
 use Rattle.std.proofs.lemmas.Bool.Decides.{same_from_decides, Decides-eqb, Decides-below_or, Decides-like}
-use Rattle.model.specs.Facts.{OnlyPossible, possible, placed, fact_word}
+use Rattle.model.specs.Facts.{possible, placed, fact_word}
 use Rattle.model.proofs.Possible.{parts, not_same}
 use Rattle.model.proofs.Sets.{placed-is}
 use Rattle.list.specs.Words.{among, listed, free}
@@ -38,14 +38,14 @@ not_free w can e =
     let l = (parts (w / 4096) (w / 64 % 64) (w % 64) can).sort in
     omega arith
 
+pub possible_at : (w v : ℕ) → w ≡ v → possible (v / 4096) (v / 64 % 64) (v % 64) ≡ true → possible (w / 4096) (w / 64 % 64) (w % 64) ≡ true
+possible_at w v e can = subst (λ (u : ℕ). possible (u / 4096) (u / 64 % 64) (u % 64) ≡ true) (sym e) can
+
 pub possible-word : (s x y : ℕ) → possible s x y ≡ true → (w : ℕ) → w ≡ fact_word s x y → possible (w / 4096) (w / 64 % 64) (w % 64) ≡ true
 possible-word s x y can w e =
-    let f = tells_fact s x y can in
-    let s' : w / 4096 ≡ s = ap (λ (v : ℕ). v / 4096) e ∙ f.sort in
-    let x' : w / 64 % 64 ≡ x = ap (λ (v : ℕ). v / 64 % 64) e ∙ f.lower in
-    let y' : w % 64 ≡ y = ap (λ (v : ℕ). v % 64) e ∙ f.upper in
-    let eq : possible (w / 4096) (w / 64 % 64) (w % 64) ≡ possible s x y = cc in
-    eq ∙ can
+    let t = tells_fact s x y can in
+    let same : possible (fact_word s x y / 4096) (fact_word s x y / 64 % 64) (fact_word s x y % 64) ≡ possible s x y = cc in
+    possible_at w (fact_word s x y) e (same ∙ can)
 
 -- w stands at some place below n
 abbrev pub Within : List ℕ → ℕ → ℕ → Type 0
@@ -64,29 +64,15 @@ pub listed-not : (ws : List ℕ) (n s x y : ℕ) → possible s x y ≡ false �
 unfolding listed
 listed-not ws n s x y p = and_left (possible s x y) (among ws (fact_word s x y) n) p
 
-pub only_possible : (ws : List ℕ) (n : ℕ) → OnlyPossible (listed ws n)
-unfolding listed
-only_possible ws n s x y h = (and_parts (possible s x y) (among ws (fact_word s x y) n) h).0
-
--- what the place that a search gives says of the fact
 pub found : (ws : List ℕ) (n s x y r : ℕ) → possible s x y ≡ true → r < n → get_or ws r 0 ≡ fact_word s x y → listed ws n s x y ≡ true
 found ws n s x y r can l h = listed_at ws n s x y can ∙ (among_decides ws (fact_word s x y) n).1 (r, l, h)
 
-pub missed : (ws : List ℕ) (n s x y r : ℕ) → possible s x y ≡ true → n ≤ r → ((k : ℕ) → k < r → get_or ws k 0 ≡ fact_word s x y → ⊥) → listed ws n s x y ≡ false
-missed ws n s x y r can l h =
-    ⊎_elim
-    (λ e. let p = (among_decides ws (fact_word s x y) n).0 (sym (listed_at ws n s x y can) ∙ e) in
-    let q = p.1 in
-    absurd (h p.0 (omega arith) p.2))
-    (λ e. e)
-    (cases_Bool (listed ws n s x y))
+pub among_none : (ws : List ℕ) (n w : ℕ) → ((k : ℕ) → k < n → get_or ws k 0 ≡ w → ⊥) → among ws w n ≡ false
+among_none ws n w out = false_from_ne_true (among ws w n) (λ e. let h = (among_decides ws w n).0 e in out h.0 h.1 h.2)
 
 pub listed-none : (ws : List ℕ) (s x y : ℕ) → listed ws 0 s x y ≡ false
-listed-none ws s x y =
-    ⊎_elim
-    (λ p. missed ws 0 s x y 0 p (omega arith) (λ k (m : k < 0) e. omega arith))
-    (λ p. listed-not ws 0 s x y p)
-    (cases_Bool (possible s x y))
+unfolding listed among
+listed-none ws s x y = and_right (possible s x y) false refl
 
 -- words that have the same facts but for one
 pub placed_by : (ws vs : List ℕ) (n m s x y : ℕ) (v : Bool) → possible s x y ≡ true → among vs (fact_word s x y) m ≡ v

@@ -1,13 +1,16 @@
 -- What putting and dropping make of sound words.
-use Rattle.std.proofs.Common.{◌≡◌, ℕ, ◌+◌, ◌-◌, ◌/◌, ◌%◌, ◌<◌, ◌≤◌, min, Bool, true, false, cond, not, ◌&&◌, ◌||◌, ltb, ◌⊎◌, List, length, get_or, drop, set, replicate, sym, refl, ap, ◌∙◌, subst, ap₂, inl, inr, ⊎_elim, arith}
+use Rattle.std.proofs.Common.{◌≡◌, ℕ, ◌+◌, ◌-◌, ◌/◌, ◌%◌, ◌<◌, ◌≤◌, min, Bool, true, false, cond, not, ◌&&◌, ◌||◌, ltb, ◌⊎◌, List, length, get_or, drop, set, replicate, sym, refl, ap, ◌∙◌, subst, ap₂, inl, inr, ⊎_elim, Option, Some, is_some, arith}
 use Rattle.std.proofs.lemmas.List.{get_or-set_same, get_or-set_other, length-set, get_or_append_left, get_or-replicate, length-replicate, length-append, length-drop}
-use Rattle.std.proofs.lemmas.Bool.{cases_Bool, cases_eq, both_ways}
+use Rattle.std.proofs.lemmas.Bool.{cases_Bool, cases_eq, both_ways, cond-true, not_from_false}
+use Rattle.std.proofs.Math.Bool.{and-true}
 use Rattle.model.specs.Facts.{Facts, possible, placed, fact_word}
+use Rattle.model.specs.declared.fact.Fact.{Fact}
+use Rattle.model.specs.declared.possible_fact.PossibleFact.{PossibleFact}
 use Rattle.model.specs.Sizes.{size, takes}
 use Rattle.model.proofs.Counting.{size-put, size-drop, size_none}
 use Rattle.list.specs.declared.list.FactList.{FactList}
-use Rattle.list.specs.Words.{among, listed, room, Apart, FactWords, Free, without, free, cleared, written, erased, used_words}
-use Rattle.list.proofs.Places.{place_is, used_is}
+use Rattle.list.specs.Words.{among, listed, room, Apart, FactWords, Free, without, free, cleared, written, erased, used_words, place, PlaceAmong}
+use Rattle.list.proofs.Places.{used_is, place_word, listed-is_some}
 use Rattle.list.proofs.Listings.{among_decides, placed_by, found, listed-none, possible-word}
 
 -- n of the words are used, as a fact list keeps them
@@ -151,23 +154,71 @@ module _ (ws : List ℕ) (n i s x y : ℕ) (can : possible s x y ≡ true) (ok :
 pub written_is : (ws : List ℕ) (n s x y : ℕ) → Sound ws n → set ws n (fact_word s x y) ≡ written ws s x y
 written_is ws n s x y ok = ap (λ (k : ℕ). set ws k (fact_word s x y)) (sym (used_is ws n ok.within ok.facts ok.rest))
 
-pub erased-is : (ws : List ℕ) (n i s x y : ℕ) → Sound ws n → i < n → ((k : ℕ) → k < i → get_or ws k 0 ≡ fact_word s x y → ⊥) → get_or ws i 0 ≡ fact_word s x y
-    → without ws n i ≡ erased ws s x y
-erased-is ws n i s x y ok l before at =
-    let w = ok.within in
-    ap (λ (k : ℕ). without ws k i) (sym (used_is ws n ok.within ok.facts ok.rest))
-    ∙ ap (without ws (used_words ws)) (sym (place_is (fact_word s x y) ws i (omega arith) before (λ _. at)))
-
--- a put and a drop leave the room as it was
-pub room-set : (ws : List ℕ) (i w : ℕ) → room (set ws i w) ≡ room ws
-room-set ws i w = ap (λ (k : ℕ). min k 16576) (length-set ws i w)
-
-pub room-without : (ws : List ℕ) (n i : ℕ) → room (without ws n i) ≡ room ws
-room-without ws n i = room-set (set ws i (get_or ws (n - 1) 0)) (n - 1) 4294967295 ∙ room-set ws i (get_or ws (n - 1) 0)
+pub erased-is : (ws : List ℕ) (n i s x y : ℕ) → Sound ws n → place (fact_word s x y) ws ≡ i → without ws n i ≡ erased ws s x y
+erased-is ws n i s x y ok at =
+    ap (λ (k : ℕ). without ws k i) (sym (used_is ws n ok.within ok.facts ok.rest)) ∙ ap (without ws (used_words ws)) (sym at)
 
 -- what a fact list says of its own words
 pub kept : (l : FactList) → Sound l.words.now l.used
 kept l = record { within = l.within; apart = l.apart; facts = l.facts; rest = l.rest; counted = l.counted }
+
+-- what put and drop_fact know once they have looked for the word w of a possible fact
+pub record Sought (ws : List ℕ) (n s x y w : ℕ) (r : Option ℕ) : Type 0 where
+  pub can : possible s x y ≡ true
+  pub word : w ≡ fact_word s x y
+  pub held : listed ws n s x y ≡ is_some r
+
+pub sought : (l : FactList) (p : PossibleFact) (f : Fact) (w : ℕ) (r : Option ℕ) → p.fact ≡ f → w ≡ fact_word p.fact.sort p.fact.x p.fact.y
+    → PlaceAmong l.words.now l.used w r → Sought l.words.now l.used f.sort f.x f.y w r
+sought l p f w r e word at =
+    let can' = subst (λ (q : Fact). possible q.sort q.x q.y ≡ true) e p.can in
+    let word' = word ∙ ap (λ (q : Fact). fact_word q.sort q.x q.y) e in
+    let within = l.within in
+    record { can = can'; word = word'; held = listed-is_some l.words.now l.used f.sort f.x f.y w r (omega arith) can' word' at }
+
+-- a put of a new fact where there is room
+pub record PutMade (ws : List ℕ) (n s x y w : ℕ) : Type 0 where
+  pub sound : Sound (set ws n w) (n + 1)
+  pub set_of : listed (set ws n w) (n + 1) ≡ placed (listed ws n) s x y true
+  pub words : set ws n w ≡ cond (not (listed ws n s x y)) (written ws s x y) ws
+
+pub put_made : (l : FactList) (p : PossibleFact) (f : Fact) (w : ℕ) (r : Option ℕ) → p.fact ≡ f → w ≡ fact_word p.fact.sort p.fact.x p.fact.y
+    → PlaceAmong l.words.now l.used w r → false ≡ is_some r → l.used < room l.words.now
+    → PutMade l.words.now l.used f.sort f.x f.y w
+put_made l p f w r e word at none free_one =
+    let ws = l.words.now in
+    let n = l.used in
+    let k = sought l p f w r e word at in
+    let new = k.held ∙ sym none in
+    subst (PutMade ws n f.sort f.x f.y) (sym k.word) (record {
+      sound = put-sound ws n f.sort f.x f.y k.can free_one (kept l) new;
+      set_of = put-listed ws n f.sort f.x f.y k.can free_one;
+      words = written_is ws n f.sort f.x f.y (kept l)
+          ∙ sym (cond-true (not (listed ws n f.sort f.x f.y)) (written ws f.sort f.x f.y) ws (not_from_false (listed ws n f.sort f.x f.y) new));
+    })
+
+-- a drop of a fact that was found at place i
+pub record DropMade (ws : List ℕ) (n i s x y : ℕ) : Type 0 where
+  pub sound : Sound (without ws n i) (n - 1)
+  pub set_of : listed (without ws n i) (n - 1) ≡ placed (listed ws n) s x y false
+  pub words : without ws n i ≡ cond (listed ws n s x y) (erased ws s x y) ws
+
+pub drop_made : (l : FactList) (p : PossibleFact) (f : Fact) (w i : ℕ) → p.fact ≡ f → w ≡ fact_word p.fact.sort p.fact.x p.fact.y
+    → (i < l.used) × (place w l.words.now ≡ i)
+    → DropMade l.words.now l.used i f.sort f.x f.y
+drop_made l p f w i e word at =
+    let ws = l.words.now in
+    let n = l.used in
+    let k = sought l p f w (Some i) e word at in
+    let within = l.within in
+    let below = at.0 in
+    let is = place_word ws n w i (omega arith) below at.1 ∙ k.word in
+    record {
+      sound = drop-sound ws n i f.sort f.x f.y k.can (kept l) below is;
+      set_of = drop-listed ws n i f.sort f.x f.y k.can (kept l) below is;
+      words = erased-is ws n i f.sort f.x f.y (kept l) (ap (λ v. place v ws) (sym k.word) ∙ at.1)
+          ∙ sym (cond-true (listed ws n f.sort f.x f.y) (erased ws f.sort f.x f.y) ws k.held);
+    }
 
 -- the words after one put into a new list
 pub begun : (ws vs us : List ℕ) (S : Facts) (s x y : ℕ) (r : Bool) → vs ≡ cleared ws → ((a b c : ℕ) → S a b c ≡ false) → r ≡ takes S (room vs) s x y
@@ -184,7 +235,3 @@ begun ws vs us S s x y r new none answer after =
     after
     ∙ ap (λ (b : Bool). cond b (written vs s x y) vs) test
     ∙ ap (λ (l : List ℕ). cond (possible s x y && ltb 0 (room ws)) (written l s x y) l) new
-  where
-    and-true : (b : Bool) → (b && true) ≡ b
-    and-true true = refl
-    and-true false = refl

@@ -1,60 +1,47 @@
 -- One word more in the pass that gathers a row.
-use Rattle.std.proofs.Common.{◌≡◌, ℕ, ◌+◌, ◌/◌, ◌%◌, Bool, true, false, ◌&&◌, ◌||◌, eqb, ltb, List, get_or, sym, refl, ap, ◌∙◌, subst, ⊎_elim, add-one, arith}
-use Rattle.std.proofs.lemmas.Bool.{cases_Bool, and_parts, and_from, eqb-true, eq-eqb, both_ways, lt-ltb}
+use Rattle.std.proofs.Common.{◌≡◌, ℕ, ◌+◌, ◌/◌, ◌%◌, Bool, true, false, ◌&&◌, ◌||◌, eqb, ltb, List, get_or, Decides, sym, ap, ◌∙◌, add-one, arith}
+use Rattle.std.proofs.lemmas.Bool.{and_parts, and_from, eqb-true, eq-eqb, lt-ltb, false_from_ne_true}
+use Rattle.std.proofs.lemmas.Bool.Decides.{same_from_decides, Decides-like, nat_tests}
+use Rattle.std.proofs.Math.Bool.{or-false}
 use Rattle.model.specs.Facts.{possible, fact_word}
-use Rattle.model.proofs.Possible.{parts}
 use Rattle.list.specs.Words.{among, listed}
-use Rattle.list.proofs.Listings.{Told, tells_fact, word_of_parts}
+use Rattle.list.proofs.Listings.{tells_fact, word_of_parts}
 
--- word i is the word of this fact
-abbrev pub here : List ℕ → ℕ → ℕ → ℕ → ℕ → Bool
-here ws i s x y = possible s x y && eqb (get_or ws i 0) (fact_word s x y)
+-- the fact's word is w
+abbrev is_word : ℕ → ℕ → ℕ → ℕ → Bool
+is_word w s x y = possible s x y && eqb w (fact_word s x y)
 
-spread : (p a b : Bool) → (p && (a || b)) ≡ ((p && b) || (p && a))
-spread true true true = refl
-spread true true false = refl
-spread true false true = refl
-spread true false false = refl
-spread false a b = refl
-
-pub listed_more : (ws : List ℕ) (i s x y : ℕ) → listed ws (i + 1) s x y ≡ (listed ws i s x y || here ws i s x y)
+listed_more : (ws : List ℕ) (i s x y : ℕ) → listed ws (i + 1) s x y ≡ (listed ws i s x y || is_word (get_or ws i 0) s x y)
 unfolding listed among
 listed_more ws i s x y =
-    ap (λ (n : ℕ). possible s x y && among ws (fact_word s x y) n) (add-one i)
-    ∙ spread (possible s x y) (eqb (get_or ws i 0) (fact_word s x y)) (among ws (fact_word s x y) i)
+    ap (λ (n : ℕ). possible s x y && among ws (fact_word s x y) n) (add-one i) ∙ grind (arith, nat_tests)
 
-same_bool : (a b : Bool) → (a ≡ true → b ≡ true) → (b ≡ true → a ≡ true) → a ≡ b
-same_bool a b f g = ⊎_elim (λ e. e ∙ sym (f e)) (λ e. ⊎_elim (λ h. absurd (both_ways a e (g h))) (λ h. e ∙ sym h) (cases_Bool b)) (cases_Bool a)
+-- a possible fact's word is that of the fact with its sort and numbers
+word_decides : (w s x y : ℕ) → possible (w / 4096) (w / 64 % 64) (w % 64) ≡ true
+    → Decides (is_word w s x y) ((w / 4096 ≡ s) × (w / 64 % 64 ≡ x) × (w % 64 ≡ y))
+word_decides w s x y can = (
+  λ h. let p = and_parts (possible s x y) (eqb w (fact_word s x y)) h in
+      let t = tells_fact s x y p.0 in
+      let e : w ≡ fact_word s x y = eqb-true w (fact_word s x y) p.1 in
+      (ap (λ (v : ℕ). v / 4096) e ∙ t.sort, ap (λ (v : ℕ). v / 64 % 64) e ∙ t.lower, ap (λ (v : ℕ). v % 64) e ∙ t.upper),
+  λ (es, ex, ey). let same : possible s x y ≡ possible (w / 4096) (w / 64 % 64) (w % 64) = cc in
+      let whole = word_of_parts w in
+      and_from (possible s x y) (eqb w (fact_word s x y)) (same ∙ can) (eq-eqb w (fact_word s x y) (omega arith)),
+)
 
--- the fact that a word stands for
-told : (ws : List ℕ) (i s x y : ℕ) → here ws i s x y ≡ true → Told s x y (get_or ws i 0)
-told ws i s x y h =
-    let p = and_parts (possible s x y) (eqb (get_or ws i 0) (fact_word s x y)) h in
-    subst (λ (w : ℕ). Told s x y w) (sym (eqb-true (get_or ws i 0) (fact_word s x y) p.1)) (tells_fact s x y p.0)
+pub row_hit : (ws : List ℕ) (i s x y w : ℕ) → w ≡ get_or ws i 0 → possible (w / 4096) (w / 64 % 64) (w % 64) ≡ true → w / 4096 ≡ s → w % 64 ≡ y
+    → listed ws (i + 1) s x y ≡ (listed ws i s x y || (eqb x (w / 64 % 64) && ltb (w / 64 % 64) 64))
+row_hit ws i s x y w at can es ey =
+    let here : is_word w s x y ≡ (eqb x (w / 64 % 64) && ltb (w / 64 % 64) 64) =
+    same_from_decides (is_word w s x y) (eqb x (w / 64 % 64) && ltb (w / 64 % 64) 64)
+    (Decides-like (is_word w s x y) (λ t. sym t.1) (λ (e : x ≡ w / 64 % 64). (es, sym e, ey)) (word_decides w s x y can)) (
+      λ h. eqb-true x (w / 64 % 64) (and_parts (eqb x (w / 64 % 64)) (ltb (w / 64 % 64) 64) h).0,
+      λ e. and_from (eqb x (w / 64 % 64)) (ltb (w / 64 % 64) 64) (eq-eqb x (w / 64 % 64) e) (lt-ltb (w / 64 % 64) 64 (omega arith)),
+    ) in
+    listed_more ws i s x y ∙ ap (λ (v : ℕ). listed ws i s x y || is_word v s x y) (sym at) ∙ ap (λ (b : Bool). listed ws i s x y || b) here
 
-pub hit : (ws : List ℕ) (i s x y : ℕ) → possible (get_or ws i 0 / 4096) (get_or ws i 0 / 64 % 64) (get_or ws i 0 % 64) ≡ true
-    → get_or ws i 0 / 4096 ≡ s → get_or ws i 0 % 64 ≡ y
-    → here ws i s x y ≡ (eqb x (get_or ws i 0 / 64 % 64) && ltb (get_or ws i 0 / 64 % 64) 64)
-hit ws i s x y can es ey =
-    let w = get_or ws i 0 in
-    same_bool (here ws i s x y) (eqb x (w / 64 % 64) && ltb (w / 64 % 64) 64)
-    (λ h. and_from (eqb x (w / 64 % 64)) (ltb (w / 64 % 64) 64) (eq-eqb x (w / 64 % 64) (sym (told ws i s x y h).lower)) (lt-ltb (w / 64 % 64) 64 (parts (w / 4096) (w / 64 % 64) (w % 64) can).lower))
-    (λ h.
-    let ex : x ≡ get_or ws i 0 / 64 % 64 = eqb-true x (get_or ws i 0 / 64 % 64) (and_parts (eqb x (get_or ws i 0 / 64 % 64)) (ltb (get_or ws i 0 / 64 % 64) 64) h).0 in
-    let same : possible s x y ≡ possible (get_or ws i 0 / 4096) (get_or ws i 0 / 64 % 64) (get_or ws i 0 % 64) = cc in
-    let word : get_or ws i 0 ≡ fact_word s x y = let e = word_of_parts (get_or ws i 0) in omega arith in
-    and_from (possible s x y) (eqb (get_or ws i 0) (fact_word s x y)) (same ∙ can) (eq-eqb (get_or ws i 0) (fact_word s x y) word))
-
-pub or-none : (a b : Bool) → b ≡ false → (a || b) ≡ a
-or-none true b h = refl
-or-none false b h = h
-
-no : (b : Bool) → (b ≡ true → ⊥) → b ≡ false
-no true h = absurd (h refl)
-no false h = refl
-
-pub miss_sort : (ws : List ℕ) (i s x y : ℕ) → (get_or ws i 0 / 4096 ≡ s → ⊥) → here ws i s x y ≡ false
-miss_sort ws i s x y d = no (here ws i s x y) (λ h. d (told ws i s x y h).sort)
-
-pub miss_upper : (ws : List ℕ) (i s x y : ℕ) → (get_or ws i 0 % 64 ≡ y → ⊥) → here ws i s x y ≡ false
-miss_upper ws i s x y d = no (here ws i s x y) (λ h. d (told ws i s x y h).upper)
+pub row_miss : (ws : List ℕ) (i s x y w : ℕ) → w ≡ get_or ws i 0 → possible (w / 4096) (w / 64 % 64) (w % 64) ≡ true → (w / 4096 ≡ s → w % 64 ≡ y → ⊥)
+    → listed ws (i + 1) s x y ≡ listed ws i s x y
+row_miss ws i s x y w at can other =
+    let here : is_word w s x y ≡ false = false_from_ne_true (is_word w s x y) (λ h. let t = (word_decides w s x y can).0 h in other t.0 t.2) in
+    listed_more ws i s x y ∙ ap (λ (v : ℕ). listed ws i s x y || is_word v s x y) (sym at) ∙ ap (λ (b : Bool). listed ws i s x y || b) here ∙ or-false (listed ws i s x y)

@@ -1,5 +1,6 @@
 -- What the words of a fact list say, and what becomes of them.
-use Rattle.std.specs.Prelude.{◌≡◌, ℕ, zero, suc, ◌-◌, ◌/◌, ◌%◌, ◌<◌, ◌≤◌, min, Bool, true, false, cond, ◌&&◌, ◌||◌, List, [], ◌∷◌, ◌++◌, length, take, drop, replicate, ◌==◌, slice_index, slice_set}
+use Rattle.std.specs.Prelude.{◌≡◌, ℕ, zero, suc, ◌-◌, ◌/◌, ◌%◌, ◌<◌, ◌≤◌, min, Bool, true, false, ◌&&◌, ◌||◌, List, ◌++◌, length, take, drop, replicate, Option, MatchOption, ◌==◌, slice_index, slice_set}
+use Rattle.std.specs.List.{position_or_len}
 use Rattle.model.specs.Facts.{Facts, possible, fact_word}
 
 -- What an unused word holds. It is the word of no fact.
@@ -12,8 +13,7 @@ room ws = min (length ws) 16576
 
 -- How many words stand before the first w: the place of w, or the length of the list where w is not in it.
 abbrev pub place : ℕ → List ℕ → ℕ
-place w [] = 0
-place w (v ∷ vs) = cond (v == w) 0 (suc (place w vs))
+place w ws = position_or_len (λ v. v == w) ws
 
 -- How many words are used: those before the first free one within the room.
 abbrev pub used_words : List ℕ → ℕ
@@ -23,6 +23,10 @@ used_words ws = place free (take (room ws) ws)
 unfoldable pub among : List ℕ → ℕ → ℕ → Bool
 among ws w zero = false
 among ws w (suc n) = slice_index ws n == w || among ws w n
+
+-- r is the place of w, if w is one of the first n words.
+abbrev pub PlaceAmong : List ℕ → ℕ → ℕ → Option ℕ → Type 0
+PlaceAmong ws n w r = MatchOption r (among ws w n ≡ false) (λ i. (i < n) × (place w ws ≡ i))
 
 -- The facts whose words are among the first n.
 unfoldable pub listed : List ℕ → ℕ → Facts

@@ -1,10 +1,12 @@
-ghost use Rattle.std.specs.Prelude.{◌≡◌, ℕ, ◌<◌, ◌≤◌, false, ◌≢◌, slice_index};
-ghost use Rattle.list.specs.Words.{cleared, erased, listed, room, written};
+ghost use Rattle.std.specs.Prelude.{◌≡◌, ℕ, false};
+ghost use Rattle.list.specs.OnlyPossible.{only_possible};
+ghost use Rattle.list.specs.Words.{PlaceAmong, cleared, erased, listed, room, written};
 
 use crate::list::FactList;
-use crate::words::{clear, find, room_of, row_of, take_out};
+use crate::words::{FREE, clear, room_of};
 use bits::Bits;
 use model::fact::Fact;
+use model::possible_fact::PossibleFact;
 use model::reading::Reading;
 use model::store::Store;
 
@@ -19,20 +21,11 @@ impl<'a> FactList<'a> {
         FactList { words, used: 0 }
     }
 
-    // How many facts there is room for.
-    fn room(&self) -> usize
-        ensures { result ≡ room self.now.words.now }
+    // The place of the word, if it is a used one.
+    fn place(&self, word: u32) -> Option<usize>
+        ensures { PlaceAmong self.now.words.now self.now.used word result }
     {
-        room_of(self.words)
-    }
-
-    // The first place of the word, or the number of used words.
-    fn place(&self, w: u32) -> usize
-        ensures within { result ≤ self.now.used }
-        ensures before { (k : ℕ) → k < result → slice_index self.now.words.now k ≢ w }
-        ensures found { result < self.now.used → slice_index self.now.words.now result ≡ w }
-    {
-        find(self.words, self.used, w)
+        self.words[..self.used].iter().position(|w| *w == word)
     }
 }
 
@@ -40,12 +33,20 @@ impl<'a> Reading for FactList<'a> {
     ghost held = { λ l. listed l.words.now l.used };
 
     fn holds(&self, fact: Fact) -> bool {
-        fact.is_possible() && self.place(fact.word()) < self.used
+        fact.is_possible() && self.place(fact.word()).is_some()
     }
 
     fn row(&self, sort: u8, y: u8) -> Bits {
-        row_of(self.words, self.used, sort, y)
+        let mut row = Bits::none();
+        for w in &self.words[..self.used] {
+            if w / 4096 == sort as u32 && w % 64 == y as u32 {
+                row = row.with((w / 64 % 64) as u8);
+            }
+        }
+        row
     }
+
+    ghost only_possible = { λ l. only_possible l.words.now l.used };
 }
 
 impl<'a> Store for FactList<'a> {
@@ -60,7 +61,7 @@ impl<'a> Store for FactList<'a> {
     ghost erased = { erased };
 
     fn capacity(&self) -> usize {
-        self.room()
+        room_of(self.words)
     }
 
     fn count(&self) -> usize {
@@ -68,30 +69,33 @@ impl<'a> Store for FactList<'a> {
     }
 
     fn put(&mut self, fact: Fact) -> bool {
-        if !fact.is_possible() {
+        let Ok(fact) = PossibleFact::try_from(fact) else {
             return false;
-        }
-        let word = fact.word();
-        if self.place(word) < self.used {
+        };
+        let word = fact.fact.word();
+        if self.place(word).is_some() {
             return true;
         }
-        if self.used >= self.room() {
+        if self.used >= self.capacity() {
             return false;
         }
-        let used = self.used;
-        self.words[used] = word;
-        self.used = used + 1;
+        self.words[self.used] = word;
+        self.used += 1;
         true
     }
 
+    // The last used word moves into the gap.
     fn drop_fact(&mut self, fact: Fact) {
-        if fact.is_possible() {
-            let i = self.place(fact.word());
-            if i < self.used {
-                let FactList { words, used } = self;
-                take_out(words, *used, i);
-                *used -= 1;
-            }
+        let Ok(fact) = PossibleFact::try_from(fact) else {
+            return;
+        };
+        if let Some(i) = self.place(fact.fact.word()) {
+            // Both fields at once: between two writes through `self` the words would break what the list keeps.
+            let FactList { words, used } = self;
+            let last = *used - 1;
+            words[i] = words[last];
+            words[last] = FREE;
+            *used = last;
         }
     }
 }

@@ -1,3 +1,4 @@
+pub mod Ranges
 pub mod Possible
 pub mod Sets
 pub mod Counting

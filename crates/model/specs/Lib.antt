@@ -1,4 +1,5 @@
 pub mod Facts
+pub mod IfPossible
 pub mod Sizes
 pub mod Sides
 pub mod Chains

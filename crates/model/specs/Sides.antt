@@ -1,7 +1,8 @@
 -- The facts of roles and of units, in words.
-use Rattle.std.specs.Prelude.{ℕ, Bool}
+use Rattle.std.specs.Prelude.{◌≡◌, ◌≢◌, ℕ, Bool, List, Result, MatchResult, codes}
 use Rattle.model.specs.Facts.{Facts}
 use Rattle.model.specs.declared.side.Side.{Side}
+use Rattle.model.specs.declared.side.NoSide.{NoSide}
 use Rattle.model.specs.declared.side.Side.TheVariants.{Role, Unit}
 
 -- The sort of the facts that say what stands.
@@ -34,3 +35,12 @@ has S k a y = S (has_sort k) a y
 -- Role or unit x is directly below y.
 abbrev pub under : Facts → Side → ℕ → ℕ → Bool
 under S k x y = S (under_sort k) x y
+
+-- The name of a side.
+abbrev pub side_text : Side → List ℕ
+side_text Role = codes "Role"
+side_text Unit = codes "Unit"
+
+-- The side of the kind 1 or 2, or nothing exactly where the kind is another.
+abbrev pub SideOfKind : ℕ → Result Side NoSide → Type 0
+SideOfKind kind r = MatchResult r (λ k. stands_sort k ≡ kind) (λ _. (kind ≢ 1) × (kind ≢ 2))

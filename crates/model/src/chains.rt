@@ -9,11 +9,11 @@ use bits::Bits;
 
 /// The roles, or the units, that are below `top` by any chain.
 pub fn all_below<R: Reading>(reading: &R, side: Side, top: u8) -> Bits
-    ensures value { (x : ℕ) → Decides (bit result.word x) (Below (R.Reading.held reading.now) side x top) }
-    ensures possible { OnlyPossible (R.Reading.held reading.now) }
+    ensures { (x : ℕ) → Decides (bit result.word x) (Below (R.Reading.held reading.now) side x top) }
 {
     let mut found = reading.row(side.under_sort(), top);
     let mut done = Bits::none();
+    // No `for`: what is found grows while it is gone through.
     while let Some(y) = found.minus(done).lowest() {
         found = found.or(reading.row(side.under_sort(), y));
         done = done.with(y);
@@ -25,10 +25,5 @@ pub fn all_below<R: Reading>(reading: &R, side: Side, top: u8) -> Bits
 pub fn has_circle<R: Reading>(reading: &R, side: Side) -> bool
     ensures { Decides result (Circle (R.Reading.held reading.now) side) }
 {
-    for x in 0..64u8 {
-        if all_below(reading, side, x).has(x) {
-            return true;
-        }
-    }
-    false
+    (0..64u8).any(|x| all_below(reading, side, x).has(x))
 }

@@ -3,6 +3,7 @@
 
 pub mod chains;
 pub mod fact;
+pub mod possible_fact;
 pub mod reading;
 pub mod side;
 pub mod store;

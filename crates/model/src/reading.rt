@@ -12,13 +12,11 @@ pub trait Reading {
 
     /// Whether the fact is in the set.
     fn holds(&self, fact: Fact) -> bool
-        ensures value { result ≡ held self.now fact.sort fact.x fact.y }
-        ensures possible { OnlyPossible (held self.now) };
+        ensures { result ≡ held self.now fact.sort fact.x fact.y };
 
     /// The numbers x of the facts in the set that have this sort and this y.
     fn row(&self, sort: u8, y: u8) -> Bits
-        ensures value { (x : ℕ) → bit result.word x ≡ held self.now sort x y }
-        ensures possible { OnlyPossible (held self.now) }
+        ensures { (x : ℕ) → bit result.word x ≡ held self.now sort x y }
     {
         let mut row = Bits::none();
         for x in 0..64u8 {
@@ -28,4 +26,7 @@ pub trait Reading {
         }
         row
     }
+
+    // Only possible facts are in the set.
+    ghost only_possible: { (reading : Self) → OnlyPossible (held reading) };
 }

@@ -1,16 +1,12 @@
-use Rattle.std.proofs.Common.{not, [], sym, refl}
+use Rattle.std.proofs.Common.{◌≡◌, true, sym, subst}
+use Rattle.model.specs.Facts.{possible}
+use Rattle.model.specs.declared.fact.Fact.{Fact}
 use Rattle.board.specs.Rows.{marked}
-use Rattle.board.proofs.Marks.{takes-possible, either_way}
+use Rattle.board.proofs.Marks.{takes-possible}
 use Rattle.board.proofs.BoardStore.put.Goals as goal
 
-pub returns : goal.returns
-returns c =
-    let S = marked c.args.self.now.rows in
+pub returns-clause-answer : goal.returns-clause-answer
+returns-clause-answer c =
     let f = c.args.fact in
-    record {
-      answer = sym (takes-possible S f.sort f.x f.y (sym c.if-not-is_possible.ensures));
-      set = c.write.ensures;
-      words = either_way (not (S f.sort f.x f.y)) [];
-      capacity = refl;
-      home = refl;
-    }
+    sym (takes-possible (marked c.args.self.now.rows) f.sort f.x f.y
+    (subst (λ (p : Fact). possible p.sort p.x p.y ≡ true) c.in-Ok.ensures c.in-Ok.fact.can))

@@ -10,7 +10,7 @@ pub loop-y-init : goal.loop-y-init
 loop-y-init g c =
     let S = g.R.Reading.held c.args.reading.now in
     let sort : c.under_sort.result ≡ under_sort c.args.side = c.under_sort.ensures in
-    let row : (x : ℕ) → bit c.row-found.result.word x ≡ under S c.args.side x c.args.top = λ x. c.row-found.ensures.value x ∙ ap (λ (s : ℕ). S s x c.args.top) sort in
+    let row : (x : ℕ) → bit c.row-found.result.word x ≡ under S c.args.side x c.args.top = λ x. c.row-found.ensures x ∙ ap (λ (s : ℕ). S s x c.args.top) sort in
     (λ x h. one (sym (row x) ∙ h), λ x h. row x ∙ h, λ x m h d. absurd (both_ways (bit c.none-done.result.word m) (c.none-done.ensures m) d))
 
 -- the one that is taken up is found and not done
@@ -21,7 +21,7 @@ next g c =
     (p.0, not-true (bit c.loop-y.done.word y) p.1)
 
 row : (g : _) (c : goal.After-with-done g) (x : ℕ) → bit c.row.result.word x ≡ under (g.R.Reading.held c.args.reading.now) c.args.side x c.in-Some.y
-row g c x = c.row.ensures.value x ∙ ap (λ (s : ℕ). g.R.Reading.held c.args.reading.now s x c.in-Some.y) c.under_sort-in-Some.ensures
+row g c x = c.row.ensures x ∙ ap (λ (s : ℕ). g.R.Reading.held c.args.reading.now s x c.in-Some.y) c.under_sort-in-Some.ensures
 
 pub loop-y-smaller : goal.loop-y-smaller
 loop-y-smaller g c =
@@ -30,7 +30,7 @@ loop-y-smaller g c =
     let old = c.loop-y.done.word in
     let new = c.with-done.result.word in
     let n = next g c in
-    let l : y < 64 = below-number S c.args.side c.row-found.ensures.possible (c.loop-y.invariant.0 y n.0) in
+    let l : y < 64 = below-number S c.args.side (g.met.R.Reading.only_possible c.args.reading.now) (c.loop-y.invariant.0 y n.0) in
     fewer (bit old) (bit new) 64 y l n.1
     (c.with-done.ensures y ∙ or_right (bit old y) (eqb y y && ltb y 64) (and_from (eqb y y) (ltb y 64) (eq-eqb y y (omega arith)) (lt-ltb y 64 l)))
     (λ k d. c.with-done.ensures k ∙ or-none (bit old k) (eqb k y && ltb y 64) (and_left (eqb k y) (ltb y 64) (ne_eqb k y d)))
@@ -51,14 +51,11 @@ loop-y-preserved g c =
 
 pub returns : goal.returns
 returns g c =
-    record {
-      value = λ x. (
-        c.loop-y.invariant.0 x,
-        closed (under (g.R.Reading.held c.args.reading.now) c.args.side) (bit c.loop-y.found.word) c.args.top c.loop-y.invariant.1
-            (λ z m h e. c.loop-y.invariant.2 z m h (all_done m e)),
-      );
-      possible = c.row-found.ensures.possible;
-    }
+    λ x. (
+      c.loop-y.invariant.0 x,
+      closed (under (g.R.Reading.held c.args.reading.now) c.args.side) (bit c.loop-y.found.word) c.args.top c.loop-y.invariant.1
+          (λ z m h e. c.loop-y.invariant.2 z m h (all_done m e)),
+    )
   where
     all_done : (m : ℕ) → bit c.loop-y.found.word m ≡ true → bit c.loop-y.done.word m ≡ true
     all_done m e =

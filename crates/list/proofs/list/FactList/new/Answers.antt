@@ -1,4 +1,4 @@
-use Rattle.std.proofs.Common.{ℕ, List, sym, refl, subst}
+use Rattle.std.proofs.Common.{ℕ, List, sym, subst}
 use Rattle.list.specs.Words.{Free}
 use Rattle.list.proofs.Listings.{listed-none}
 use Rattle.list.proofs.Moves.{none-sound, cleared-free}
@@ -9,5 +9,5 @@ invariant_of-result c =
     let s = none-sound c.clear.new.words (subst (λ (ws : List ℕ). Free ws 0) (sym c.clear.ensures) (cleared-free c.args.words.now)) in
     record { within = s.within; apart = s.apart; facts = s.facts; rest = s.rest; counted = s.counted }
 
-pub returns : goal.returns
-returns c = record { none = listed-none c.clear.new.words; words = c.clear.ensures; home = refl }
+pub returns-clause-none : goal.returns-clause-none
+returns-clause-none c = listed-none c.clear.new.words
