@@ -10,13 +10,13 @@ use Rattle.rules.specs.declared.fault.Fault.TheVariants.{Length, Field, Shape}
 use Rattle.rules.specs.declared.rule.Rule.{Rule}
 use Rattle.rules.specs.Trees.{Tree, is, isnt, both, either, nodes, InRange}
 use Rattle.rules.specs.Bytes.{allowed, node_of, node_bytes, node_in_range}
-use Rattle.rules.specs.Scan.{bad_field, bad_shape, or_else, fault_of, no_fault, nodes_in_range, one_rule, ListsARule, AcceptsRules}
+use Rattle.rules.specs.Scan.{bad_field, bad_list, bad_shape, or_else, fault_of, no_fault, nodes_in_range, one_rule, ListsARule, AcceptsRules}
 use Rattle.rules.specs.Rules.{rule_nodes, rule_tree, trees, first_tree, RulesAreTrees}
 use Rattle.rules.proofs.Coding.{bytes_exact}
 use Rattle.rules.proofs.Parsed.{trees-whole}
 
 some-none : {X : Type 0} (f : Fault) → ◌≡◌ {A = Option Fault} (Some f) None → X
-some-none f e = let z : ◌≡◌ {A = ℕ} 0 1 = cc in absurd (omega arith)
+some-none f e = absurd (cc)
 
 pub guard : (b : Bool) (x : Option Fault) (f : Fault) → cond b x (Some f) ≡ None → (b ≡ true) × (x ≡ None)
 guard true x f e = (refl, e)
@@ -145,8 +145,12 @@ fields_back i (n ∷ ns) e =
     (cond-true _ _ _ x.0 ∙ r.0, cc)
 
 -- nodes without a fault in field or shape are one rule
-pub whole : (bs : List NodeBytes) → bad_field 0 bs ≡ None → bad_shape 0 0 (map node_of bs) ≡ None → one_rule (map node_of bs) ≡ true
+whole : (bs : List NodeBytes) → bad_field 0 bs ≡ None → bad_shape 0 0 (map node_of bs) ≡ None → one_rule (map node_of bs) ≡ true
 whole bs e h = and_from (nodes_in_range (map node_of bs)) (no_fault (bad_shape 0 0 (map node_of bs))) (fields 0 bs e).0 (ap no_fault h)
+
+-- and so are the nodes that a list was read into
+pub read-whole : (bs : List NodeBytes) (ns : List Node) → bad_list bs ≡ None → ns ≡ map node_of bs → bad_shape 0 0 ns ≡ None → one_rule ns ≡ true
+read-whole bs ns e n h = ap one_rule n ∙ whole bs (guard (ltb 0 (length bs) && ltb (length bs) 32) (bad_field 0 bs) Length e).1 (ap (bad_shape 0 0) (sym n) ∙ h)
 
 -- a list without fault decodes to one rule
 pub sound-list : (bs : List NodeBytes) → fault_of bs ≡ None → (length bs ≤ 31) × (one_rule (map node_of bs) ≡ true) × (map node_bytes (map node_of bs) ≡ bs)
@@ -198,4 +202,4 @@ pub rule_shape : (r : Rule) → bad_shape 0 0 (rule_nodes r) ≡ None
 rule_shape r = no_fault-none (bad_shape 0 0 (rule_nodes r)) (and_parts (nodes_in_range (rule_nodes r)) (no_fault (bad_shape 0 0 (rule_nodes r))) r.whole).1
 
 pub rule_short : (r : Rule) → length (rule_nodes r) ≤ 31
-rule_short r = let e = length-take r.len r.nodes in let s = r.short in omega arith
+rule_short r = let e = length-take r.list.len r.list.nodes in let s = r.list.short in omega arith

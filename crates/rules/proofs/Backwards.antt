@@ -1,6 +1,6 @@
 -- Trees taken from the end of a node list, node by node.
-use Rattle.std.proofs.Common.{◌≡◌, ℕ, zero, suc, ◌+◌, ◌-◌, ◌<◌, ◌≤◌, true, false, List, [], ◌∷◌, ◌++◌, length, get_or, take, sym, refl, ap, ◌∙◌, subst, arith}
-use Rattle.std.proofs.lemmas.List.{append_assoc, append-nil, length-append, length-take-le, take_more}
+use Rattle.std.proofs.Common.{◌≡◌, ℕ, zero, suc, ◌+◌, ◌-◌, ◌<◌, true, false, List, [], ◌∷◌, ◌++◌, length, sym, refl, ap, ◌∙◌, subst, arith}
+use Rattle.std.proofs.lemmas.List.{append_assoc, append-nil, length-append}
 use Rattle.std.proofs.lemmas.Bool.{true≢false}
 use Rattle.rules.specs.declared.node.Node.{Node}
 use Rattle.rules.specs.Trees.{Tree, is, isnt, both, either, nodes, operator}
@@ -19,7 +19,7 @@ one_less (both a b) mid ns o e = absurd (true≢false o)
 one_less (either a b) mid ns o e = absurd (true≢false o)
 
 -- before a leaf one tree less is wanted
-before-leaf : (front ns : List Node) (n : Node) (k : ℕ) → operator n ≡ false → 0 < k → Followed front k (ns ++ (n ∷ [])) → Followed front (k - 1) ns
+pub before-leaf : (front ns : List Node) (n : Node) (k : ℕ) → operator n ≡ false → 0 < k → Followed front k (ns ++ (n ∷ [])) → Followed front (k - 1) ns
 before-leaf front ns n zero o h f = absurd (omega arith)
 before-leaf front ns n (suc k) o h (t, mid, rest, e) =
     let p = from_push t mid ns n e in
@@ -33,30 +33,12 @@ one_more (both a b) front mid ns k o e rest = (b, mid ++ nodes a, (a, mid, rest,
 one_more (either a b) front mid ns k o e rest = (b, mid ++ nodes a, (a, mid, rest, refl), append_assoc mid (nodes a) (nodes b) ∙ e)
 
 -- before an operator one more
-before-operator : (front ns : List Node) (n : Node) (k : ℕ) → operator n ≡ true → 0 < k → Followed front k (ns ++ (n ∷ [])) → Followed front (k + 1) ns
+pub before-operator : (front ns : List Node) (n : Node) (k : ℕ) → operator n ≡ true → 0 < k → Followed front k (ns ++ (n ∷ [])) → Followed front (k + 1) ns
 before-operator front ns n zero o h f = absurd (omega arith)
 before-operator front ns n (suc k) o h (t, mid, rest, e) =
     let p = from_push t mid ns n e in
     let more : suc (suc k) ≡ suc k + 1 = omega arith in
     subst (λ (m : ℕ). Followed front m ns) more (one_more t front mid ns k (ap operator p.1 ∙ o) p.0 rest)
-
--- one turn of the scan, at the node before i
-module _ (front ns : List Node) (i k : ℕ) (z : Node) (some : 0 < i) (within : i ≤ length ns) (want : 0 < k) where
-  back : take i ns ≡ take (i - 1) ns ++ (get_or ns (i - 1) z ∷ [])
-  back =
-      let same : i ≡ i - 1 + 1 = omega arith in
-      ap (λ (j : ℕ). take j ns) same ∙ take_more ns (i - 1) z (omega arith)
-
-  pub turn_leaf : operator (get_or ns (i - 1) z) ≡ false → Followed front k (take i ns) → Followed front (k - 1) (take (i - 1) ns)
-  turn_leaf o f = before-leaf front (take (i - 1) ns) (get_or ns (i - 1) z) k o want (subst (Followed front k) back f)
-
-  pub turn_operator : operator (get_or ns (i - 1) z) ≡ true → Followed front k (take i ns) → Followed front (k + 1) (take (i - 1) ns)
-  turn_operator o f = before-operator front (take (i - 1) ns) (get_or ns (i - 1) z) k o want (subst (Followed front k) back f)
-
--- where no tree is wanted the front is left
-pub front_left : (front ns : List Node) (i k : ℕ) → k ≡ 0 → i ≤ length ns → Followed front k (take i ns) → i ≡ length front
-front_left front ns i zero z h f = sym (ap length f ∙ length-take-le i ns h)
-front_left front ns i (suc k) z h f = absurd (omega arith)
 
 -- where no node is left no tree is wanted
 pub none_left : {X : Type 0} (front ns : List Node) (k : ℕ) → length ns ≡ 0 → 0 < k → Followed front k ns → X

@@ -1,6 +1,6 @@
 -- Joined and split rules: their node lists, and that they are rules.
-use Rattle.std.proofs.Common.{◌≡◌, ℕ, ◌+◌, ◌<◌, ◌≤◌, Bool, true, false, cond, ltb, List, [], ◌∷◌, ◌++◌, map, length, get_or, take, drop, sym, refl, ap, ◌∙◌, arith}
-use Rattle.std.proofs.lemmas.List.{append_assoc, append-nil, length-append, map-append, take-append-drop, take_more}
+use Rattle.std.proofs.Common.{◌≡◌, ℕ, ◌<◌, Bool, true, false, cond, ltb, List, [], ◌∷◌, ◌++◌, map, sym, refl, ap, ◌∙◌}
+use Rattle.std.proofs.lemmas.List.{append_assoc, map-append}
 use Rattle.std.proofs.lemmas.Bool.{and_from, cond_both, lt-ltb}
 use Rattle.model.specs.declared.side.Side.{Side}
 use Rattle.rules.specs.declared.node.Leaf.{Leaf}
@@ -11,7 +11,10 @@ use Rattle.rules.specs.declared.rule.Rule.{Rule}
 use Rattle.rules.specs.Trees.{Tree, is, isnt, both, either, nodes, in_range, InRange}
 use Rattle.rules.specs.Scan.{bad_shape, no_fault, nodes_in_range, one_rule}
 use Rattle.rules.specs.Rules.{rule_nodes, rule_tree}
-use Rattle.rules.specs.Edits.{same_side, joins, renamed, joined_leaf, joined_rule, joined_node, JoinsNodes, names, numbered, split_rule, split_node, split_nodes, SplitsNodes}
+use Rattle.rules.specs.declared.change.Joining.{Joining}
+use Rattle.rules.specs.declared.change.Splitting.{Splitting}
+use Rattle.rules.specs.Changes.{node_joined, tree_joined, nodes_split, tree_split}
+use Rattle.rules.specs.Edits.{same_side, joins, renamed, joined_leaf, joined_rule, JoinsNodes, names, numbered, split_rule, split_node, split_nodes, SplitsNodes}
 use Rattle.rules.proofs.Accepts.{shape_whole, range_tree, rules_are_trees}
 use Rattle.rules.proofs.Parsed.{one_tree}
 
@@ -43,17 +46,19 @@ module _ (k : Side) (e f n : ℕ) where
   joined-range h (both s t) p = (joined-range h s p.0, joined-range h t p.1)
   joined-range h (either s t) p = (joined-range h s p.0, joined-range h t p.1)
 
-  module _ (r : Rule) where
-    joined-list : map (joined_node k e f n) (rule_nodes r) ≡ nodes (joined_rule k e f n (rule_tree r))
-    joined-list = ap (map (joined_node k e f n)) (sym (rules_are_trees r).list) ∙ sym (joins-nodes k e f n (rule_tree r))
+module _ (j : Joining) (r : Rule) where
+  joined-list : map (node_joined j) (rule_nodes r) ≡ nodes (tree_joined j (rule_tree r))
+  joined-list = ap (map (node_joined j)) (sym (rules_are_trees r).list) ∙ sym (joins-nodes j.side j.first j.second j.into (rule_tree r))
 
-    -- a rule's nodes, each one joined, are one rule
-    pub joined-whole : n < 64 → one_rule (map (joined_node k e f n) (rule_nodes r)) ≡ true
-    joined-whole h = ap one_rule joined-list ∙ one_rule_tree (joined_rule k e f n (rule_tree r)) (joined-range h (rule_tree r) (rules_are_trees r).range)
+  -- a rule's nodes, each one joined, are one rule
+  pub joined-whole : j.into < 64 → one_rule (map (node_joined j) (rule_nodes r)) ≡ true
+  joined-whole h =
+      ap one_rule joined-list
+      ∙ one_rule_tree (tree_joined j (rule_tree r)) (joined-range j.side j.first j.second j.into h (rule_tree r) (rules_are_trees r).range)
 
-    -- and that rule is the tree joined
-    pub joined_tree : (v : Rule) → rule_nodes v ≡ map (joined_node k e f n) (rule_nodes r) → rule_tree v ≡ joined_rule k e f n (rule_tree r)
-    joined_tree v p = rule_tree-is v (joined_rule k e f n (rule_tree r)) (p ∙ joined-list)
+  -- and that rule is the tree joined
+  pub joined_tree : (v : Rule) → rule_nodes v ≡ map (node_joined j) (rule_nodes r) → rule_tree v ≡ tree_joined j (rule_tree r)
+  joined_tree v p = rule_tree-is v (tree_joined j (rule_tree r)) (p ∙ joined-list)
 
 -- ── Splitting ──
 module _ (k : Side) (e n1 n2 : ℕ) where
@@ -88,30 +93,16 @@ module _ (k : Side) (e n1 n2 : ℕ) where
   split-range h1 h2 (both s t) p = (split-range h1 h2 s p.0, split-range h1 h2 t p.1)
   split-range h1 h2 (either s t) p = (split-range h1 h2 s p.0, split-range h1 h2 t p.1)
 
-  -- one node more, after `done` and with `more` from the node at i
-  pub split-more : (vs : List Node) (i : ℕ) (z : Node) (done more : List Node) → i < length vs → done ≡ split_nodes k e n1 n2 (take i vs) → more ≡ split_node k e n1 n2 (get_or vs i z)
-      → done ++ more ≡ split_nodes k e n1 n2 (take (i + 1) vs)
-  split-more vs i z done more h p q =
-      let one = append-nil (split_node k e n1 n2 (get_or vs i z)) in
-      let all = split-append k e n1 n2 (take i vs) (get_or vs i z ∷ []) in
-      let next = take_more vs i z h in
-      cc
+module _ (s : Splitting) (r : Rule) where
+  pub split-list : nodes_split s (rule_nodes r) ≡ nodes (tree_split s (rule_tree r))
+  split-list = ap (nodes_split s) (sym (rules_are_trees r).list) ∙ sym (splits_nodes s.side s.whole s.part1 s.part2 (rule_tree r))
 
-  -- the first nodes give no more than all
-  pub split_front : (vs : List Node) (i : ℕ) → length (split_nodes k e n1 n2 (take i vs)) ≤ length (split_nodes k e n1 n2 vs)
-  split_front vs i =
-      let all : split_nodes k e n1 n2 (take i vs) ++ split_nodes k e n1 n2 (drop i vs) ≡ split_nodes k e n1 n2 vs =
-      sym (split-append k e n1 n2 (take i vs) (drop i vs)) ∙ ap (split_nodes k e n1 n2) (take-append-drop i vs) in
-      omega (arith, simp length-append at (ap length all))
+  -- a rule's nodes, each one split, are one rule
+  pub split-whole : s.part1 < 64 → s.part2 < 64 → one_rule (nodes_split s (rule_nodes r)) ≡ true
+  split-whole h1 h2 =
+      ap one_rule split-list
+      ∙ one_rule_tree (tree_split s (rule_tree r)) (split-range s.side s.whole s.part1 s.part2 h1 h2 (rule_tree r) (rules_are_trees r).range)
 
-  module _ (r : Rule) where
-    pub split-list : split_nodes k e n1 n2 (rule_nodes r) ≡ nodes (split_rule k e n1 n2 (rule_tree r))
-    split-list = ap (split_nodes k e n1 n2) (sym (rules_are_trees r).list) ∙ sym (splits_nodes k e n1 n2 (rule_tree r))
-
-    -- a rule's nodes, each one split, are one rule
-    pub split-whole : n1 < 64 → n2 < 64 → one_rule (split_nodes k e n1 n2 (rule_nodes r)) ≡ true
-    split-whole h1 h2 = ap one_rule split-list ∙ one_rule_tree (split_rule k e n1 n2 (rule_tree r)) (split-range h1 h2 (rule_tree r) (rules_are_trees r).range)
-
-    -- and that rule is the tree split
-    pub split_tree : (v : Rule) → rule_nodes v ≡ split_nodes k e n1 n2 (rule_nodes r) → rule_tree v ≡ split_rule k e n1 n2 (rule_tree r)
-    split_tree v p = rule_tree-is v (split_rule k e n1 n2 (rule_tree r)) (p ∙ split-list)
+  -- and that rule is the tree split
+  pub split_tree : (v : Rule) → rule_nodes v ≡ nodes_split s (rule_nodes r) → rule_tree v ≡ tree_split s (rule_tree r)
+  split_tree v p = rule_tree-is v (tree_split s (rule_tree r)) (p ∙ split-list)

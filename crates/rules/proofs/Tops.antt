@@ -1,6 +1,6 @@
 -- The last node of a tree, and what stands before it.
-use Rattle.std.proofs.Common.{◌≡◌, ◌-◌, List, [], ◌∷◌, ◌++◌, length, get_or, sym, refl, ap, ◌∙◌, arith}
-use Rattle.std.proofs.lemmas.List.{append_assoc, length_push, get_or_push, same_from_push}
+use Rattle.std.proofs.Common.{◌≡◌, List, [], ◌∷◌, ◌++◌, length, sym, refl, ap, ◌∙◌, arith}
+use Rattle.std.proofs.lemmas.List.{append_assoc, length_push, same_from_push}
 use Rattle.rules.specs.declared.node.Node.{Node}
 use Rattle.rules.specs.declared.node.Node.TheVariants.{And, Or}
 use Rattle.rules.specs.Trees.{Tree, is, isnt, both, either, nodes}
@@ -29,9 +29,3 @@ from_push t front ns n e =
 
 pub ended : (t : Tree) (all ns : List Node) (n : Node) → nodes t ≡ all → all ≡ ns ++ (n ∷ []) → (below t ≡ ns) × (top t ≡ n)
 ended t all ns n e h = from_push t [] ns n (e ∙ h)
-
-pub last_is : (t : Tree) (ns : List Node) (n : Node) → nodes t ≡ ns → n ≡ get_or ns (length ns - 1) n → n ≡ top t
-last_is t ns n e h =
-    let all = sym e ∙ nodes-top t in
-    let long : length (below t) ≡ length ns - 1 = omega (arith, ap length all, length_push (below t) (top t)) in
-    h ∙ ap (λ (xs : List Node). get_or xs (length ns - 1) n) all ∙ get_or_push (below t) (top t) n (length ns - 1) long

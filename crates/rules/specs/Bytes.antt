@@ -1,5 +1,5 @@
 -- Nodes as four bytes.
-use Rattle.std.specs.Prelude.{◌≡◌, ℕ, Bool, true, cond, ◌&&◌, ◌||◌, ◌==◌, nat_lt}
+use Rattle.std.specs.Prelude.{◌≡◌, ℕ, Bool, true, cond, ◌&&◌, ◌||◌, ◌==◌, nat_lt, false, Result, MatchResult}
 use Rattle.model.specs.declared.side.Side.{Side}
 use Rattle.model.specs.declared.side.Side.TheVariants.{Role, Unit}
 use Rattle.rules.specs.declared.node.Leaf.{Leaf}
@@ -7,6 +7,7 @@ use Rattle.rules.specs.declared.node.Leaf.TheVariants.{Actor, Group}
 use Rattle.rules.specs.declared.node.Node.{Node}
 use Rattle.rules.specs.declared.node.Node.TheVariants.{Is, Not, And, Or}
 use Rattle.rules.specs.declared.bytes.NodeBytes.{NodeBytes}
+use Rattle.rules.specs.declared.scan.ForbiddenField.{ForbiddenField}
 use Rattle.rules.specs.Trees.{in_range}
 
 -- The kind's number of a side.
@@ -42,6 +43,10 @@ leaf_of b = cond (b.kind == 0) (Actor b.number) (Group (cond (b.kind == 1) Role 
 -- The node that allowed bytes stand for.
 abbrev pub node_of : NodeBytes → Node
 node_of b = cond (b.tag == 0) (Is (leaf_of b)) (cond (b.tag == 1) (Not (leaf_of b)) (cond (b.tag == 2) And Or))
+
+-- Allowed bytes are read as their node, and no others are read.
+abbrev pub Decodes : NodeBytes → Result Node ForbiddenField → Type 0
+Decodes b r = MatchResult r (λ n. (allowed b ≡ true) × (n ≡ node_of b)) (λ _. allowed b ≡ false)
 
 -- The entity that a node names, if it names one, can be.
 abbrev pub node_in_range : Node → Bool

@@ -1,4 +1,5 @@
 pub mod Trees
+pub mod NodeLists
 pub mod Bytes
 pub mod Scan
 pub mod Refusals
@@ -7,3 +8,5 @@ pub mod Books
 pub mod Text
 pub mod Parts
 pub mod Edits
+pub mod Changes
+pub mod Filled

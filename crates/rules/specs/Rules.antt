@@ -1,14 +1,15 @@
 -- A rule as it is kept, and the tree that it is.
-use Rattle.std.specs.Prelude.{◌≡◌, List, [], ◌∷◌, take}
+use Rattle.std.specs.Prelude.{◌≡◌, List, [], ◌∷◌}
 use Rattle.rules.specs.declared.node.Leaf.TheVariants.{Actor}
 use Rattle.rules.specs.declared.node.Node.{Node}
 use Rattle.rules.specs.declared.node.Node.TheVariants.{Is, Not, And, Or}
 use Rattle.rules.specs.declared.rule.Rule.{Rule}
+use Rattle.rules.specs.NodeLists.{list_nodes}
 use Rattle.rules.specs.Trees.{Tree, is, isnt, both, either, nodes, InRange}
 
 -- The nodes of a rule.
 abbrev pub rule_nodes : Rule → List Node
-rule_nodes r = take r.len r.nodes
+rule_nodes r = list_nodes r.list
 
 -- The last two trees under an operator.
 abbrev pub paired : (Tree → Tree → Tree) → List Tree → List Tree

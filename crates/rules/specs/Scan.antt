@@ -28,6 +28,10 @@ or_else (Some f) g = Some f
 abbrev pub fault_of : List NodeBytes → Option Fault
 fault_of bs = cond (nat_lt 0 (length bs) && nat_lt (length bs) 32) (or_else (bad_field 0 bs) (bad_shape 0 0 (map node_of bs))) (Some Length)
 
+-- What keeps a list from being the nodes of a rule: its length first, then its fields.
+abbrev pub bad_list : List NodeBytes → Option Fault
+bad_list bs = cond (nat_lt 0 (length bs) && nat_lt (length bs) 32) (bad_field 0 bs) (Some Length)
+
 abbrev pub no_fault : Option Fault → Bool
 no_fault None = true
 no_fault (Some f) = false

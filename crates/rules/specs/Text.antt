@@ -1,17 +1,11 @@
 -- A rule as text: byte codes.
 use Rattle.std.specs.Prelude.{ℕ, Bool, true, false, cond, ◌||◌, List, [], ◌++◌, codes, decimal}
-use Rattle.model.specs.declared.side.Side.{Side}
-use Rattle.model.specs.declared.side.Side.TheVariants.{Role, Unit}
+use Rattle.model.specs.Sides.{side_text}
 use Rattle.rules.specs.declared.node.Leaf.{Leaf}
 use Rattle.rules.specs.declared.node.Leaf.TheVariants.{Actor, Group}
 use Rattle.rules.specs.declared.rule.Rule.{Rule}
 use Rattle.rules.specs.Trees.{Tree, is, isnt, both, either}
 use Rattle.rules.specs.Rules.{rule_tree}
-
--- The name of a side.
-abbrev pub side_text : Side → List ℕ
-side_text Role = codes "Role"
-side_text Unit = codes "Unit"
 
 -- The (+), where a leaf has it.
 abbrev pub plus_text : Bool → List ℕ

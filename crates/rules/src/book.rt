@@ -1,6 +1,8 @@
 ghost use Rattle.rules.specs.Books.{emptied, filled, slot_rule};
-ghost use Rattle.std.specs.Prelude.{◌≡◌, ℕ, Some, None};
+ghost use Rattle.rules.specs.Filled.{filled_left, filled_slots};
+ghost use Rattle.std.specs.Prelude.{◌≡◌, ℕ, ◌==◌, ◌&&◌, if◌then◌else◌, Some, None, nat_lt};
 
+use crate::filled::Filled;
 use crate::rule::Rule;
 
 // How many slots a book has.
@@ -9,7 +11,7 @@ const SLOTS: usize = 32;
 /// A book of rules: slots 0 to 31, each empty or with one rule.
 #[derive(Clone, Copy)]
 pub struct Book {
-    slots: [Option<Rule>; 32],
+    slots: [Option<Rule>; SLOTS],
 }
 
 impl Book {
@@ -26,12 +28,16 @@ impl Book {
     pub fn rule(&self, slot: u8) -> Option<&Rule>
         ensures { elim result [ Some p ↦ slot_rule self.now slot ≡ Some p.now | None ↦ slot_rule self.now slot ≡ None ] }
     {
-        if slot as usize >= SLOTS {
-            return None;
-        }
-        match &self.slots[slot as usize] {
-            Some(rule) => Some(rule),
-            None => None,
+        self.slots.get(usize::from(slot))?.as_ref()
+    }
+
+    // Past slot 31 nothing happens. `get_mut` was tried: it does not say what the slots are after the write, and the clause stayed open.
+    fn set(&mut self, slot: u8, rule: Option<Rule>)
+        ensures { (i : ℕ) → slot_rule self.new i ≡ (if i == slot && nat_lt slot 32 then rule else slot_rule self.old i) }
+    {
+        let slot = usize::from(slot);
+        if slot < SLOTS {
+            self.slots[slot] = rule;
         }
     }
 
@@ -39,17 +45,23 @@ impl Book {
     pub fn put(&mut self, slot: u8, rule: Rule)
         ensures { (i : ℕ) → slot_rule self.new i ≡ filled (slot_rule self.old) slot rule i }
     {
-        if (slot as usize) < SLOTS {
-            self.slots[slot as usize] = Some(rule);
-        }
+        self.set(slot, Some(rule));
     }
 
     /// Empties the slot.
     pub fn clear(&mut self, slot: u8)
         ensures { (i : ℕ) → slot_rule self.new i ≡ emptied (slot_rule self.old) slot i }
     {
-        if (slot as usize) < SLOTS {
-            self.slots[slot as usize] = None;
+        self.set(slot, None);
+    }
+
+    /// The slots that hold a rule, ascending, each with its rule.
+    pub fn filled(&self) -> Filled<'_>
+        ensures { filled_left result ≡ filled_slots self.now }
+    {
+        Filled {
+            rest: &self.slots,
+            slot: 0,
         }
     }
 }

@@ -1,9 +1,12 @@
-ghost use Rattle.std.specs.Prelude.{◌≡◌, ◌<◌, ◌≤◌, ◌⊎◌, map, length, take, MatchOption};
-ghost use Rattle.rules.specs.Edits.{JoinsNodes, SplitsNodes, joined_leaf, joined_node, joined_rule, names, numbered, split_node, split_nodes, split_rule};
+ghost use Rattle.std.specs.Prelude.{◌≡◌};
+ghost use Rattle.rules.specs.Edits.{JoinsNodes, SplitsNodes, names, numbered};
+ghost use Rattle.rules.specs.Changes.{Joins, Splits, leaf_joined, node_joined, node_split};
+ghost use Rattle.rules.specs.NodeLists.{Appended};
 ghost use Rattle.rules.specs.Rules.{rule_tree};
-ghost use Rattle.rules.specs.Trees.{nodes};
 
+use crate::change::{Joining, Splitting};
 use crate::node::{Leaf, Node};
+use crate::node_list::NodeList;
 use crate::rule::Rule;
 use model::side::Side;
 
@@ -28,9 +31,15 @@ impl Leaf {
         }
     }
 
-    fn joined(self, side: Side, first: u8, second: u8, into: u8) -> Leaf
-        ensures { result ≡ joined_leaf side first second into self }
+    fn joined(self, joining: Joining) -> Leaf
+        ensures { result ≡ leaf_joined joining self }
     {
+        let Joining {
+            side,
+            first,
+            second,
+            into,
+        } = joining;
         if self.names(side, first) || self.names(side, second) {
             self.numbered(into)
         } else {
@@ -39,115 +48,67 @@ impl Leaf {
     }
 }
 
-// What a split makes of one node: the first `len` of `nodes`.
-#[derive(Clone, Copy)]
-struct Pieces {
-    nodes: [Node; 3],
-    len: usize,
-}
-
 impl Node {
-    fn joined(self, side: Side, first: u8, second: u8, into: u8) -> Node
-        ensures { result ≡ joined_node side first second into self }
+    pub(crate) fn joined(self, joining: Joining) -> Node
+        ensures { result ≡ node_joined joining self }
     {
         match self {
-            Node::Is(leaf) => Node::Is(leaf.joined(side, first, second, into)),
-            Node::Not(leaf) => Node::Not(leaf.joined(side, first, second, into)),
+            Node::Is(leaf) => Node::Is(leaf.joined(joining)),
+            Node::Not(leaf) => Node::Not(leaf.joined(joining)),
             Node::And | Node::Or => self,
         }
     }
 
-    fn split(self, side: Side, whole: u8, part1: u8, part2: u8) -> Pieces
-        ensures few { result.len ≤ 3 }
-        ensures list { take result.len result.nodes ≡ split_node side whole part1 part2 self }
+    // Puts what the split makes of the node at the end of the list, or says that there is no room.
+    pub(crate) fn split_into(self, splitting: Splitting, list: &mut NodeList) -> Option<()>
+        ensures { Appended list.old (node_split splitting self) result list.new }
     {
+        let Splitting {
+            side,
+            whole,
+            part1,
+            part2,
+        } = splitting;
         match self {
-            Node::Is(leaf) if leaf.names(side, whole) => Pieces {
-                nodes: [
-                    Node::Is(leaf.numbered(part1)),
-                    Node::Is(leaf.numbered(part2)),
-                    Node::Or,
-                ],
-                len: 3,
-            },
+            Node::Is(leaf) if leaf.names(side, whole) => list.extend(&[
+                Node::Is(leaf.numbered(part1)),
+                Node::Is(leaf.numbered(part2)),
+                Node::Or,
+            ]),
             // Who is not in the whole is in neither part.
-            Node::Not(leaf) if leaf.names(side, whole) => Pieces {
-                nodes: [
-                    Node::Not(leaf.numbered(part1)),
-                    Node::Not(leaf.numbered(part2)),
-                    Node::And,
-                ],
-                len: 3,
-            },
-            _ => Pieces {
-                nodes: [self; 3],
-                len: 1,
-            },
+            Node::Not(leaf) if leaf.names(side, whole) => list.extend(&[
+                Node::Not(leaf.numbered(part1)),
+                Node::Not(leaf.numbered(part2)),
+                Node::And,
+            ]),
+            _ => list.push(self),
         }
     }
-}
-
-// The nodes after a join, in the first places of the array.
-fn joined_nodes(list: &[Node], side: Side, first: u8, second: u8, into: u8) -> [Node; 31]
-    requires { length list.now ≤ 31 }
-    ensures { take (length list.now) result ≡ map (joined_node side first second into) list.now }
-{
-    let mut nodes = [Node::And; 31];
-    for (i, node) in list.iter().enumerate() {
-        nodes[i] = node.joined(side, first, second, into);
-    }
-    nodes
-}
-
-// The nodes after a split, in the first places of the array, and how many they are. There are none where they are more than 31.
-fn split_nodes(
-    list: &[Node],
-    side: Side,
-    whole: u8,
-    part1: u8,
-    part2: u8,
-) -> Option<([Node; 31], usize)>
-    ensures { MatchOption result (31 < length (split_nodes side whole part1 part2 list.now)) (λ p. (p.1 ≤ 31) × (take p.1 p.0 ≡ split_nodes side whole part1 part2 list.now)) }
-{
-    let mut nodes = [Node::And; 31];
-    let mut len = 0;
-    for node in list {
-        let pieces = node.split(side, whole, part1, part2);
-        if len + pieces.len > nodes.len() {
-            return None;
-        }
-        nodes[len..len + pieces.len].copy_from_slice(&pieces.nodes[0..pieces.len]);
-        len += pieces.len;
-    }
-    Some((nodes, len))
 }
 
 impl Rule {
     /// The rule after two roles, or two units, are joined into one. There is none where the new number is past 63.
-    pub fn joined(&self, side: Side, first: u8, second: u8, into: u8) -> Option<Rule>
-        ensures { MatchOption result (64 ≤ into) (λ v. (into < 64) × (rule_tree v ≡ joined_rule side first second into (rule_tree self.now))) }
+    pub fn joined(&self, joining: Joining) -> Option<Rule>
+        ensures { Joins joining (rule_tree self.now) result }
     {
-        if into >= 64 {
+        if joining.into >= 64 {
             return None;
         }
-        let list = self.nodes();
-        let nodes = joined_nodes(list, side, first, second, into);
         Some(Rule {
-            nodes,
-            len: list.len(),
+            list: self.list.joined(joining),
         })
     }
 
     /// The rule after a role or a unit is split in two: what named the whole names either part, and under NOT neither. There is none where a
     /// part's number is past 63 or the rule would have more than 31 nodes.
-    pub fn split(&self, side: Side, whole: u8, part1: u8, part2: u8) -> Option<Rule>
-        ensures { MatchOption result ((64 ≤ part1) ⊎ ((64 ≤ part2) ⊎ (31 < length (nodes (split_rule side whole part1 part2 (rule_tree self.now)))))) (λ v. (part1 < 64) × (part2 < 64) × (length (nodes (split_rule side whole part1 part2 (rule_tree self.now))) ≤ 31) × (rule_tree v ≡ split_rule side whole part1 part2 (rule_tree self.now))) }
+    pub fn split(&self, splitting: Splitting) -> Option<Rule>
+        ensures { Splits splitting (rule_tree self.now) result }
     {
-        if part1 >= 64 || part2 >= 64 {
+        if splitting.part1 >= 64 || splitting.part2 >= 64 {
             return None;
         }
-        let (nodes, len) = split_nodes(self.nodes(), side, whole, part1, part2)?;
-        Some(Rule { nodes, len })
+        let list = self.list.split(splitting)?;
+        Some(Rule { list })
     }
 }
 

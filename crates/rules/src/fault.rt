@@ -1,5 +1,7 @@
-ghost use Rattle.rules.specs.Refusals.{fault_numbers};
-ghost use Rattle.std.specs.Prelude.{◌≡◌};
+ghost use Rattle.rules.specs.Refusals.{fault_numbers, numbers_text};
+ghost use Rattle.std.specs.Prelude.{◌≡◌, Some};
+
+use std::fmt;
 
 /// What keeps a node list from being a rule.
 #[derive(Clone, Copy, PartialEq, Eq, Debug)]
@@ -19,6 +21,21 @@ pub struct Numbers {
     pub layer: u8,
     pub slot: u8,
     pub node: u8,
+}
+
+/// As in: 3 in layer 1, slot 0, node 2.
+impl fmt::Display for Numbers {
+    ghost output = { λ n. Some (numbers_text n) };
+
+    fn fmt<W: fmt::Write>(&self, f: &mut fmt::Formatter<W>) -> fmt::Result {
+        let Numbers {
+            number,
+            layer,
+            slot,
+            node,
+        } = *self;
+        write!(f, "{number} in layer {layer}, slot {slot}, node {node}")
+    }
 }
 
 impl Fault {

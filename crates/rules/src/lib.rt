@@ -3,9 +3,12 @@
 
 pub mod book;
 pub mod bytes;
+pub mod change;
 pub mod edit;
 pub mod fault;
+pub mod filled;
 pub mod node;
+mod node_list;
 pub mod reading;
 pub mod rule;
 pub mod scan;

@@ -1,38 +1,42 @@
-ghost use Rattle.std.specs.Prelude.{◌≡◌, ◌≤◌, map, length, take, Some, None, Ok, Err};
+ghost use Rattle.std.specs.Prelude.{◌≡◌, map, Some, None, Ok, Err, MatchResult};
+ghost use Rattle.std.specs.Result.{result_err};
 ghost use Rattle.rules.specs.Bytes.{BytesExact, node_of};
+ghost use Rattle.rules.specs.NodeLists.{list_nodes};
 ghost use Rattle.rules.specs.Rules.{RulesAreTrees, rule_nodes};
-ghost use Rattle.rules.specs.Scan.{AcceptsRules, bad_field, bad_shape, fault_of};
+ghost use Rattle.rules.specs.Scan.{AcceptsRules, bad_list, bad_shape, fault_of};
 ghost use Rattle.rules.specs.Trees.{OneTree};
 
 use crate::bytes::NodeBytes;
 use crate::fault::Fault;
 use crate::node::Node;
+use crate::node_list::{MOST_NODES, NodeList};
 use crate::rule::Rule;
 
-// The first node with a forbidden field.
-fn field_fault(list: &[NodeBytes]) -> Option<Fault>
-    requires { length list.now ≤ 31 }
-    ensures { result ≡ bad_field 0 list.now }
+// The nodes that the bytes stand for, or what keeps them from being nodes of a rule.
+fn decoded(list: &[NodeBytes]) -> Result<NodeList, Fault>
+    ensures { MatchResult result (λ nodes. (bad_list list.now ≡ None) × (list_nodes nodes ≡ map node_of list.now)) (λ fault. bad_list list.now ≡ Some fault) }
 {
-    for (i, node) in list.iter().enumerate() {
-        if !node.is_allowed() {
-            return Some(Fault::Field(i as u8));
-        }
+    if list.is_empty() || list.len() > MOST_NODES {
+        return Err(Fault::Length);
     }
-    None
+    let mut nodes = NodeList::new();
+    for (i, bytes) in list.iter().enumerate() {
+        let node = Node::try_from(*bytes).map_err(|_| Fault::Field(i as u8))?;
+        nodes.push(node).ok_or(Fault::Length)?;
+    }
+    Ok(nodes)
 }
 
-// What keeps the nodes from being one tree.
-fn shape_fault(nodes: &[Node]) -> Option<Fault>
-    requires { length nodes.now ≤ 31 }
-    ensures { result ≡ bad_shape 0 0 nodes.now }
+// Whether the nodes are one tree.
+fn one_tree(list: &NodeList) -> Result<(), Fault>
+    ensures { result_err result ≡ bad_shape 0 0 (list_nodes list.now) }
 {
+    let nodes = list.as_slice();
     let mut trees: usize = 0;
     for (i, node) in nodes.iter().enumerate() {
         if node.is_operator() {
-            let few = trees < 2;
-            if few {
-                return Some(Fault::Shape(i as u8));
+            if trees < 2 {
+                return Err(Fault::Shape(i as u8));
             }
             trees -= 1;
         } else {
@@ -40,22 +44,10 @@ fn shape_fault(nodes: &[Node]) -> Option<Fault>
         }
     }
     if trees == 1 {
-        None
+        Ok(())
     } else {
-        Some(Fault::Shape(nodes.len() as u8))
+        Err(Fault::Shape(nodes.len() as u8))
     }
-}
-
-// The nodes that the bytes stand for, in the first places of the array.
-fn decoded(list: &[NodeBytes]) -> [Node; 31]
-    requires { length list.now ≤ 31 }
-    ensures { take (length list.now) result ≡ map node_of list.now }
-{
-    let mut nodes = [Node::And; 31];
-    for i in 0..list.len() {
-        nodes[i] = list[i].node();
-    }
-    nodes
 }
 
 impl Rule {
@@ -63,25 +55,16 @@ impl Rule {
     pub fn read(list: &[NodeBytes]) -> Result<Rule, Fault>
         ensures { elim result [ Ok v ↦ (fault_of list.now ≡ None) × (rule_nodes v ≡ map node_of list.now) | Err e ↦ fault_of list.now ≡ Some e ] }
     {
-        let len = list.len();
-        if len == 0 || len > 31 {
-            return Err(Fault::Length);
-        }
-        if let Some(fault) = field_fault(list) {
-            return Err(fault);
-        }
-        let nodes = decoded(list);
-        if let Some(fault) = shape_fault(&nodes[0..len]) {
-            return Err(fault);
-        }
-        Ok(Rule { nodes, len })
+        let list = decoded(list)?;
+        one_tree(&list)?;
+        Ok(Rule { list })
     }
 
     /// The rule's nodes.
     pub fn nodes(&self) -> &[Node]
         ensures { result.now ≡ rule_nodes self.now }
     {
-        &self.nodes[0..self.len]
+        self.list.as_slice()
     }
 }
 

@@ -1,13 +1,12 @@
-ghost use Rattle.std.specs.Prelude.{◌≡◌, ◌≤◌, true, take};
+ghost use Rattle.std.specs.Prelude.{◌≡◌, true};
+ghost use Rattle.rules.specs.NodeLists.{list_nodes};
 ghost use Rattle.rules.specs.Scan.{one_rule};
 
-use crate::node::Node;
+use crate::node_list::NodeList;
 
 /// An access rule: one complete tree of 1 to 31 nodes.
 #[derive(Clone, Copy)]
 pub struct Rule {
-    pub(crate) nodes: [Node; 31],
-    pub(crate) len: usize,
-    ghost short: { len ≤ 31 },
-    ghost whole: { one_rule (take len nodes) ≡ true },
+    pub(crate) list: NodeList,
+    ghost whole: { one_rule (list_nodes list) ≡ true },
 }

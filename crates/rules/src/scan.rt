@@ -1,4 +1,4 @@
-ghost use Rattle.rules.specs.Bytes.{BytesExact, allowed, leaf_of, node_bytes, node_of};
+ghost use Rattle.rules.specs.Bytes.{Decodes, allowed, leaf_of, node_of};
 ghost use Rattle.std.specs.Prelude.{◌≡◌};
 
 use crate::bytes::NodeBytes;
@@ -36,6 +36,24 @@ impl NodeBytes {
             1 => Node::Not(self.leaf()),
             2 => Node::And,
             _ => Node::Or,
+        }
+    }
+}
+
+/// A node has a forbidden field.
+#[derive(Clone, Copy, PartialEq, Eq, Debug)]
+pub struct ForbiddenField;
+
+impl TryFrom<NodeBytes> for Node {
+    type Error = ForbiddenField;
+
+    ghost try_from_gives = { λ bytes read. Decodes bytes read };
+
+    fn try_from(bytes: NodeBytes) -> Result<Node, ForbiddenField> {
+        if bytes.is_allowed() {
+            Ok(bytes.node())
+        } else {
+            Err(ForbiddenField)
         }
     }
 }

@@ -1,3 +1,4 @@
+use crate::book::Book;
 use crate::bytes::NodeBytes;
 use crate::fault::Fault;
 use crate::rule::Rule;
@@ -64,4 +65,29 @@ fn lengths(rt: HostRuntime) {
     ];
     assert_eq!(rt; refused(&list[0..31]), (0, 0, 0, 0), "31 nodes");
     assert_eq!(rt; refused(&list[0..32]), (1, 1, 255, 255), "32 nodes");
+}
+
+// The first three slots that hold a rule, 255 where there are fewer.
+fn held(book: &Book) -> [u8; 3] {
+    let mut slots = [255; 3];
+    for (place, (slot, _rule)) in slots.iter_mut().zip(book.filled()) {
+        *place = slot;
+    }
+    slots
+}
+
+#[test]
+fn filled(rt: HostRuntime) -> Result<(), Fault> {
+    let mut book = Book::new();
+    assert_eq!(rt; held(&book), [255, 255, 255]);
+    let rule = Rule::read(&[leaf(1)])?;
+    book.put(31, rule);
+    book.put(0, rule);
+    book.put(32, rule);
+    assert_eq!(rt;
+        held(&book),
+        [0, 31, 255],
+        "ascending, and none past slot 31"
+    );
+    Ok(())
 }

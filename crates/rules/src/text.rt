@@ -1,21 +1,11 @@
 ghost use Rattle.std.specs.Prelude.{◌≡◌, ◌≤◌, length, Some, Decides};
 ghost use Rattle.rules.specs.Parts.{Begins, OfTree, top};
-ghost use Rattle.rules.specs.Text.{compound, in_parens, leaf_text, plus_text, rule_text, side_text, tree_text};
+ghost use Rattle.rules.specs.Text.{compound, in_parens, leaf_text, plus_text, rule_text, tree_text};
 ghost use Rattle.std.specs.Fmt.{WritesOnOk};
 
 use crate::node::{Leaf, Node};
 use crate::rule::Rule;
-use model::side::Side;
 use std::fmt;
-
-fn side_name(side: Side) -> &'static str
-    ensures { result.now ≡ side_text side }
-{
-    match side {
-        Side::Role => "Role",
-        Side::Unit => "Unit",
-    }
-}
 
 fn plus_sign(plus: bool) -> &'static str
     ensures { result.now ≡ plus_text plus }
@@ -30,7 +20,6 @@ impl fmt::Display for Leaf {
         match *self {
             Leaf::Actor(number) => write!(f, "Actor={number}"),
             Leaf::Group(side, number, plus) => {
-                let side = side_name(side);
                 let sign = plus_sign(plus);
                 write!(f, "{side}={number}{sign}")
             }
@@ -44,33 +33,32 @@ fn begin(list: &[Node]) -> usize
     ensures begins { Begins list.now result }
 {
     let mut wanted: usize = 1;
-    let mut i = list.len();
-    while wanted > 0 && i > 0 {
-        i -= 1;
-        if list[i].is_operator() {
+    let mut rest = list;
+    while wanted > 0
+        && let Some((node, before)) = rest.split_last()
+    {
+        if node.is_operator() {
             wanted += 1;
         } else {
             wanted -= 1;
         }
+        rest = before;
     }
-    i
+    rest.len()
 }
 
 // Whether the tree, given by its nodes, ends in this node.
 fn ends_in(tree: &[Node], node: Node) -> bool
     ensures { OfTree tree.now (λ t. Decides result (top t ≡ node)) }
 {
-    match tree.last() {
-        Some(last) => *last == node,
-        None => false,
-    }
+    tree.last() == Some(&node)
 }
 
 // Whether the tree, given by its nodes, is an AND or an OR.
 fn is_compound(tree: &[Node]) -> bool
     ensures { OfTree tree.now (λ t. result ≡ compound t) }
 {
-    ends_in(tree, Node::And) || ends_in(tree, Node::Or)
+    tree.last().is_some_and(|last| last.is_operator())
 }
 
 // Writes a tree, given by its nodes, in parentheses where they are wanted.
@@ -89,6 +77,7 @@ fn show<W: fmt::Write>(tree: &[Node], parens: bool, f: &mut fmt::Formatter<W>) -
     match *node {
         Node::Is(leaf) => write!(f, "{leaf}"),
         Node::Not(leaf) => write!(f, "NOT {leaf}"),
+        // Two arms: one for both would need a second match for the word and the other operator.
         Node::And => {
             show(left, ends_in(left, Node::Or), f)?;
             f.write_str(" AND ")?;

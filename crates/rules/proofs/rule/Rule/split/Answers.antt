@@ -1,28 +1,21 @@
 use Rattle.std.proofs.Common.{length, ap, ◌∙◌, inr, arith}
 use Rattle.std.proofs.lemmas.List.{length-take}
 use Rattle.rules.specs.Scan.{one_rule}
-use Rattle.rules.specs.Edits.{split_nodes}
 use Rattle.rules.proofs.Edited.{split-list, split-whole, split_tree}
 use Rattle.rules.proofs.rule.Rule.split.Goals as goal
 
-pub returns-in_err-nodes : goal.returns-in_err-nodes
-returns-in_err-nodes c =
-    let e = split-list c.args.side c.args.whole c.args.part1 c.args.part2 c.args.self.now in
-    let f = ap (split_nodes c.args.side c.args.whole c.args.part1 c.args.part2) c.nodes.ensures in
-    rw c.from_residual.ensures (inr (inr (omega (arith, ap length (f ∙ e), c.in_err-nodes.ensures))))
+pub returns-in_err-list : goal.returns-in_err-list
+returns-in_err-list c =
+    rw c.from_residual.ensures (inr (inr (omega (arith, c.in_err-list.ensures, ap length (split-list c.args.splitting c.args.self.now)))))
 
 pub invariant_of-result : goal.invariant_of-result
 invariant_of-result c =
-    let e = c.in_ok-nodes.ensures.1 ∙ ap (split_nodes c.args.side c.args.whole c.args.part1 c.args.part2) c.nodes.ensures in
-    let whole = split-whole c.args.side c.args.whole c.args.part1 c.args.part2 c.args.self.now (omega arith) (omega arith) in
-    record { short = c.in_ok-nodes.ensures.0; whole = ap one_rule e ∙ whole }
+    record { whole = ap one_rule c.in_ok-list.ensures ∙ split-whole c.args.splitting c.args.self.now (omega arith) (omega arith) }
 
 pub returns : goal.returns
-returns c =
-    let e = c.in_ok-nodes.ensures.1 ∙ ap (split_nodes c.args.side c.args.whole c.args.part1 c.args.part2) c.nodes.ensures in
-    let f = split-list c.args.side c.args.whole c.args.part1 c.args.part2 c.args.self.now in (
-      omega arith,
-      omega arith,
-      omega (arith, ap length (e ∙ f), length-take c.in_ok-nodes.len c.in_ok-nodes.nodes, c.in_ok-nodes.ensures.0),
-      split_tree _ _ _ _ c.args.self.now _ e,
-    )
+returns c = (
+  omega arith,
+  omega arith,
+  omega (arith, ap length (c.in_ok-list.ensures ∙ split-list c.args.splitting c.args.self.now), length-take c.in_ok-list.list.len c.in_ok-list.list.nodes),
+  split_tree c.args.splitting c.args.self.now _ c.in_ok-list.ensures,
+)
