@@ -1,5 +1,7 @@
+mod Words
+mod Members
+mod Reached
 mod Stacks
 mod Rooms
-mod Taken
 pub mod Standing
 pub mod Naming

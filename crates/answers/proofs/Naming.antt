@@ -1,16 +1,20 @@
 -- No node names an absent entity exactly if every name stands.
-use Rattle.std.proofs.Common.{◌≡◌, ℕ, ◌+◌, Bool, true, false, cond, ◌&&◌, List, [], ◌∷◌, ◌++◌, Some, None, Option, sym, refl, ap, ◌∙◌, arith}
+use Rattle.std.proofs.Common.{◌≡◌, ℕ, suc, ◌+◌, Bool, true, false, cond, not, ◌&&◌, nat_lt, List, [], ◌∷◌, ◌++◌, length, Some, None, Option, sym, refl, ap, ◌∙◌, zero-add, arith}
 use Rattle.std.proofs.lemmas.Bool.{and_parts, and_from, cond-true}
+use Rattle.std.proofs.lemmas.Bool.Decides.{nat_tests}
+use Rattle.std.proofs.lemmas.List.Folds.{list_all-append}
+use Rattle.std.specs.List.{list_all, position_or_len, position}
+use Rattle.bits.proofs.Laws.{and-true}
 use Rattle.model.specs.Facts.{Facts}
 use Rattle.rules.specs.declared.node.Node.{Node}
+use Rattle.rules.specs.declared.node.Node.TheVariants.{And, Or}
 use Rattle.rules.specs.Trees.{Tree, is, isnt, both, either, nodes}
 use Rattle.rules.specs.Rules.{rule_nodes, rule_tree}
 use Rattle.rules.proofs.Accepts.{rules_are_trees}
 use Rattle.answers.specs.Validity.{NamesStand, node_stands, first_absent, NamesChecked}
 
 abbrev all_stand : Facts → List Node → Bool
-all_stand F [] = true
-all_stand F (n ∷ ns) = node_stands F n && all_stand F ns
+all_stand F ns = list_all (node_stands F) ns
 
 guard : (b : Bool) (x : Option ℕ) (i : ℕ) → cond b x (Some i) ≡ None → (b ≡ true) × (x ≡ None)
 guard true x i e = (refl, e)
@@ -24,28 +28,39 @@ all_none : (F : Facts) (i : ℕ) (ns : List Node) → all_stand F ns ≡ true �
 all_none F i [] e = refl
 all_none F i (n ∷ ns) e = let g = and_parts (node_stands F n) (all_stand F ns) e in cond-true _ _ _ g.0 ∙ all_none F (i + 1) ns g.1
 
-append_from : (F : Facts) (ns ms : List Node) → all_stand F ns ≡ true → all_stand F ms ≡ true → all_stand F (ns ++ ms) ≡ true
-append_from F [] ms p q = q
-append_from F (n ∷ ns) ms p q = let g = and_parts (node_stands F n) (all_stand F ns) p in and_from (node_stands F n) (all_stand F (ns ++ ms)) g.0 (append_from F ns ms g.1 q)
+absent_more : (b : Bool) (x : Option ℕ) (i n m : ℕ) → x ≡ cond (nat_lt m n) (Some (i + 1 + m)) None
+    → cond b x (Some i) ≡ cond (nat_lt (cond (not (not b)) (1 + m) 0) (suc n)) (Some (i + cond (not (not b)) (1 + m) 0)) None
+absent_more true x i n m e = grind (arith, nat_tests)
+absent_more false x i n m e = grind (arith, nat_tests)
 
-append_parts : (F : Facts) (ns ms : List Node) → all_stand F (ns ++ ms) ≡ true → (all_stand F ns ≡ true) × (all_stand F ms ≡ true)
-append_parts F [] ms p = (refl, p)
-append_parts F (n ∷ ns) ms p =
-    let g = and_parts (node_stands F n) (all_stand F (ns ++ ms)) p in
-    let r = append_parts F ns ms g.1 in
-    (and_from (node_stands F n) (all_stand F ns) g.0 r.0, r.1)
+absent_after : (F : Facts) (i : ℕ) (ns : List Node)
+    → first_absent F i ns ≡ cond (nat_lt (position_or_len (λ v. not (node_stands F v)) ns) (length ns)) (Some (i + position_or_len (λ v. not (node_stands F v)) ns)) None
+absent_after F i [] = refl
+absent_after F i (n ∷ ns) = absent_more (node_stands F n) _ i (length ns) _ (absent_after F (i + 1) ns)
 
-pub names_all : (F : Facts) (t : Tree) → NamesStand F t → all_stand F (nodes t) ≡ true
+-- the first that names an absent entity, in the words of std
+pub absent_position : (F : Facts) (ns : List Node) → first_absent F 0 ns ≡ position (λ v. not (node_stands F v)) ns
+absent_position F ns =
+    let n = position_or_len (λ v. not (node_stands F v)) ns in
+    absent_after F 0 ns ∙ ap (λ (k : ℕ). cond (nat_lt n (length ns)) (Some k) None) (zero-add n)
+
+-- an operator names nothing
+all_of_two : (F : Facts) (s t : Tree) (v : Node) → node_stands F v ≡ true → all_stand F (nodes s ++ (nodes t ++ (v ∷ []))) ≡ (all_stand F (nodes s) && all_stand F (nodes t))
+all_of_two F s t v e =
+    list_all-append (node_stands F) (nodes s) (nodes t ++ (v ∷ []))
+    ∙ ap (λ b. all_stand F (nodes s) && b) (list_all-append (node_stands F) (nodes t) (v ∷ []) ∙ and-true (all_stand F (nodes t)) (all_stand F (v ∷ [])) (and_from (node_stands F v) true e refl))
+
+names_all : (F : Facts) (t : Tree) → NamesStand F t → all_stand F (nodes t) ≡ true
 names_all F (is l) h = and_from _ true h refl
 names_all F (isnt l) h = and_from _ true h refl
-names_all F (both s t) h = append_from F (nodes s) _ (names_all F s h.0) (append_from F (nodes t) _ (names_all F t h.1) refl)
-names_all F (either s t) h = append_from F (nodes s) _ (names_all F s h.0) (append_from F (nodes t) _ (names_all F t h.1) refl)
+names_all F (both s t) h = all_of_two F s t And refl ∙ and_from _ _ (names_all F s h.0) (names_all F t h.1)
+names_all F (either s t) h = all_of_two F s t Or refl ∙ and_from _ _ (names_all F s h.0) (names_all F t h.1)
 
 all_names : (F : Facts) (t : Tree) → all_stand F (nodes t) ≡ true → NamesStand F t
 all_names F (is l) h = (and_parts _ true h).0
 all_names F (isnt l) h = (and_parts _ true h).0
-all_names F (both s t) h = let p = append_parts F (nodes s) _ h in (all_names F s p.0, all_names F t (append_parts F (nodes t) _ p.1).0)
-all_names F (either s t) h = let p = append_parts F (nodes s) _ h in (all_names F s p.0, all_names F t (append_parts F (nodes t) _ p.1).0)
+all_names F (both s t) h = let p = and_parts _ _ (sym (all_of_two F s t And refl) ∙ h) in (all_names F s p.0, all_names F t p.1)
+all_names F (either s t) h = let p = and_parts _ _ (sym (all_of_two F s t Or refl) ∙ h) in (all_names F s p.0, all_names F t p.1)
 
 pub names_checked : NamesChecked
 names_checked F r =

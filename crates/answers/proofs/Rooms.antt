@@ -6,7 +6,9 @@ use Rattle.rules.specs.declared.node.Node.{Node}
 use Rattle.rules.specs.declared.fault.Fault.TheVariants.{Shape}
 use Rattle.rules.specs.Trees.{operator}
 use Rattle.rules.specs.Scan.{bad_shape}
-use Rattle.rules.proofs.Accepts.{guard, guard_not}
+use Rattle.rules.specs.declared.rule.Rule.{Rule}
+use Rattle.rules.specs.Rules.{rule_nodes}
+use Rattle.rules.proofs.Accepts.{guard, guard_not, rule_short}
 use Rattle.answers.specs.Stack.{height}
 
 -- a node of a list without fault: an operator has two trees before it, and the rest goes on without fault
@@ -27,26 +29,24 @@ room i d (v ∷ ns) h =
     (λ e. let r = room (i + 1) (d + 1) ns (leaf-step i d v ns h e) in omega arith)
     (cases_Bool (operator v))
 
+-- what a stack of d answers is asked at node v, which is node i, and what it has after it
 pub record Fits (i d : ℕ) (v : Node) (rest : List Node) : Type 0 where
-  pub within : d ≤ 16
   pub leaf : operator v ≡ false → d < 16
-  pub pair : operator v ≡ true → 2 ≤ d
   pub next : bad_shape (i + 1) (height d v) rest ≡ None
   pub fewer : height d v ≤ i + 1
 
-pub fits : (ns : List Node) (i d : ℕ) (z : Node) → length ns ≤ 31 → i < length ns → d ≤ i → bad_shape i d (drop i ns) ≡ None → Fits i d (get_or ns i z) (drop (i + 1) ns)
-fits ns i d z short l few h =
+pub fits : (r : Rule) (ns : List Node) → ns ≡ rule_nodes r → (i d : ℕ) (z : Node) → i < length ns → d ≤ i → bad_shape i d (drop i ns) ≡ None → Fits i d (get_or ns i z) (drop (i + 1) ns)
+fits r ns list i d z l few h =
     let v = get_or ns i z in
-    let h' : bad_shape i d (get_or ns i z ∷ drop (i + 1) ns) ≡ None = sym (at_drop_more (bad_shape i d) ns i z l) ∙ h in
-    let long = length-drop i ns in
-    let rest = length-drop (i + 1) ns in
+    let rest = drop (i + 1) ns in
+    let h' : bad_shape i d (v ∷ rest) ≡ None = sym (at_drop_more (bad_shape i d) ns i z l) ∙ h in
+    let short : length ns ≤ 31 = let e = ap length list in let s = rule_short r in omega arith in
+    let left = length-drop (i + 1) ns in
     record {
-      within = let r = room i d (drop i ns) h in omega arith;
-      leaf = λ e. let r = room (i + 1) (d + 1) (drop (i + 1) ns) (leaf-step i d v (drop (i + 1) ns) h' e) in omega arith;
-      pair = λ e. (operator-step i d v (drop (i + 1) ns) h' e).0;
+      leaf = λ e. let s = room (i + 1) (d + 1) rest (leaf-step i d v rest h' e) in omega arith;
       next = ⊎_elim
-          (λ e. ap (λ (k : ℕ). bad_shape (i + 1) k (drop (i + 1) ns)) (cond-true (operator v) (d - 1) (d + 1) e) ∙ (operator-step i d v (drop (i + 1) ns) h' e).1)
-          (λ e. ap (λ (k : ℕ). bad_shape (i + 1) k (drop (i + 1) ns)) (cond-false (operator v) (d - 1) (d + 1) e) ∙ leaf-step i d v (drop (i + 1) ns) h' e)
+          (λ e. ap (λ (k : ℕ). bad_shape (i + 1) k rest) (cond-true (operator v) (d - 1) (d + 1) e) ∙ (operator-step i d v rest h' e).1)
+          (λ e. ap (λ (k : ℕ). bad_shape (i + 1) k rest) (cond-false (operator v) (d - 1) (d + 1) e) ∙ leaf-step i d v rest h' e)
           (cases_Bool (operator v));
       fewer = ⊎_elim
           (λ e. let k = cond-true (operator v) (d - 1) (d + 1) e in omega arith)

@@ -1,5 +1,5 @@
 -- Who qualifies for a rule.
-use Rattle.std.specs.Prelude.{◌≡◌, ℕ, Bool, true, ◌⊎◌, ◌↔◌}
+use Rattle.std.specs.Prelude.{◌≡◌, ℕ, Bool, true, ◌⊎◌, ◌↔◌, Decides}
 use Rattle.model.specs.Facts.{Facts}
 use Rattle.model.specs.Sides.{actor_stands, stands, has, under}
 use Rattle.model.specs.Chains.{Below}
@@ -23,6 +23,10 @@ Qualifies F (is l) a = InLeaf F l a
 Qualifies F (isnt l) a = (actor_stands F a ≡ true) × (InLeaf F l a → ⊥)
 Qualifies F (both s t) a = Qualifies F s a × Qualifies F t a
 Qualifies F (either s t) a = Qualifies F s a ⊎ Qualifies F t a
+
+-- The answer says of every actor asked about whether it qualifies.
+abbrev pub Tells : Facts → Tree → (ℕ → Bool) → (ℕ → Bool) → Type 0
+Tells F t asks isin = (a : ℕ) → asks a ≡ true → Decides (isin a) (Qualifies F t a)
 
 -- The ends of every pair stand.
 pub record EndsStand (F : Facts) : Type 0 where

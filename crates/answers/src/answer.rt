@@ -4,9 +4,9 @@ ghost use Rattle.bits.specs.Bit.{bit};
 ghost use Rattle.model.specs.Facts.{Facts};
 ghost use Rattle.model.specs.Sides.{actor_stands};
 ghost use Rattle.std.specs.Int.Bits.{bit_and, bit_or, bit_xor};
-ghost use Rattle.std.proofs.Common.{ap, ◌∙◌, refl};
-ghost use Rattle.bits.proofs.Laws.{bit-and, bit-or, bit-xor, apart};
-ghost use Rattle.answers.specs.Outside.{outside as outside_both};
+ghost use Rattle.std.proofs.Common.{refl};
+ghost use Rattle.bits.proofs.Laws.{bit-and, bit-or};
+ghost use Rattle.answers.specs.Outside.{bit_outside};
 
 use bits::Bits;
 use rules::node::Leaf;
@@ -89,7 +89,7 @@ impl Answer for bool {
     }
 }
 
-/// The set of all, bit a for actor a.
+/// The set of all, bit a for actor a. Its methods `and` and `or` are called below, not the trait's.
 impl Answer for Bits {
     ghost isin = { λ set. bit set.word };
 
@@ -103,23 +103,17 @@ impl Answer for Bits {
 
     ghost unites = { λ x y a. bit-or x.word y.word a };
 
-    ghost excludes = { λ s x a. bit-xor s.word (bit_and s.word x.word) a ∙ ap (apart (bit s.word a)) (bit-and s.word x.word a) ∙ outside_both (bit s.word a) (bit x.word a) };
+    ghost excludes = { λ standing x. bit_outside standing.word x.word };
 
     fn and(self, other: Bits) -> Bits {
-        Bits {
-            word: self.word & other.word,
-        }
+        self.and(other)
     }
 
     fn or(self, other: Bits) -> Bits {
-        Bits {
-            word: self.word | other.word,
-        }
+        self.or(other)
     }
 
     fn not(self, standing: Bits) -> Bits {
-        Bits {
-            word: standing.word ^ (standing.word & self.word),
-        }
+        standing.minus(self)
     }
 }

@@ -1,13 +1,15 @@
-ghost use Rattle.std.specs.Prelude.{ℕ, ◌&&◌, Decides, ◌==◌};
-ghost use Rattle.answers.specs.Qualify.{Qualifies};
-ghost use Rattle.model.specs.Sides.{actor_stands};
+ghost use Rattle.std.specs.Prelude.{◌≡◌, ℕ, ◌&&◌, Decides, ◌==◌};
+ghost use Rattle.answers.specs.Qualify.{Qualifies, Reaches};
+ghost use Rattle.model.specs.Sides.{actor_stands, has};
 ghost use Rattle.rules.specs.Rules.{rule_tree};
 
+use crate::actors::stands;
 use crate::answer::Question;
-use crate::members::is_member;
-use crate::reader::read_rule;
+use crate::reader::read;
+use model::chains::all_below;
 use model::fact::Fact;
 use model::reading::Reading;
+use model::side::Side;
 use rules::node::Leaf;
 use rules::rule::Rule;
 
@@ -16,6 +18,30 @@ use rules::rule::Rule;
 pub struct One<'a, R> {
     pub reading: &'a R,
     pub actor: u8,
+}
+
+impl<'a, R: Reading> One<'a, R> {
+    // Whether the actor has the role, or belongs to the unit.
+    fn has(&self, side: Side, number: u8) -> bool
+        ensures { result ≡ has (R.Reading.held self.now.reading.now) side self.now.actor number }
+    {
+        self.reading.holds(Fact {
+            sort: side.has_sort(),
+            x: self.actor,
+            y: number,
+        })
+    }
+
+    // Whether the actor has the role, or belongs to the unit; under (+), also whether it has or belongs to one below it.
+    fn is_member(&self, side: Side, number: u8, plus: bool) -> bool
+        ensures { Decides result (Reaches (R.Reading.held self.now.reading.now) side number plus self.now.actor) }
+    {
+        self.has(side, number)
+            || (plus
+                && all_below(self.reading, side, number)
+                    .into_iter()
+                    .any(|below| self.has(side, below)))
+    }
 }
 
 impl<'a, R: Reading> Question<bool> for One<'a, R> {
@@ -30,12 +56,7 @@ impl<'a, R: Reading> Question<bool> for One<'a, R> {
     fn leaf(&self, leaf: Leaf) -> bool {
         match leaf {
             Leaf::Actor(actor) => actor == self.actor,
-            Leaf::Group(side, number, false) => self.reading.holds(Fact {
-                sort: side.has_sort(),
-                x: self.actor,
-                y: number,
-            }),
-            Leaf::Group(side, number, true) => is_member(self.reading, side, number, self.actor),
+            Leaf::Group(side, number, plus) => self.is_member(side, number, plus),
         }
     }
 }
@@ -44,16 +65,6 @@ impl<'a, R: Reading> Question<bool> for One<'a, R> {
 pub fn may<R: Reading>(reading: &R, rule: &Rule, actor: u8) -> bool
     ensures { Decides result (Qualifies (R.Reading.held reading.now) (rule_tree rule.now) actor) }
 {
-    if !reading.holds(Fact {
-        sort: 0,
-        x: actor,
-        y: 0,
-    }) {
-        return false;
-    }
     let mut stack = [false; 16];
-    match read_rule(&One { reading, actor }, rule, &mut stack) {
-        Some(yes) => yes,
-        None => unreachable(),
-    }
+    stands(reading, actor) && read(&One { reading, actor }, rule, &mut stack)
 }

@@ -1,10 +1,10 @@
-ghost use Rattle.std.specs.Prelude.{◌≡◌, ℕ, ◌≤◌, length, Some, None, Ok, Err, Decides};
-ghost use Rattle.answers.specs.Qualify.{PairsSuffice, QualifiedStand, Qualifies};
-ghost use Rattle.answers.specs.Refuted.{Refutes};
-ghost use Rattle.answers.specs.Validity.{NamesChecked, Valid, first_absent, name_stands, node_stands};
-ghost use Rattle.bits.specs.Bit.{bit};
-ghost use Rattle.rules.specs.Rules.{rule_nodes, rule_tree};
+ghost use Rattle.std.specs.Prelude.{◌≡◌};
+ghost use Rattle.answers.specs.Qualify.{PairsSuffice, QualifiedStand};
+ghost use Rattle.answers.specs.Refuted.{Judged};
+ghost use Rattle.answers.specs.Validity.{NamesChecked, first_absent, name_stands, node_stands};
+ghost use Rattle.rules.specs.Rules.{rule_nodes};
 
+use crate::actors::stands;
 use crate::everyone::who;
 use bits::Bits;
 use model::fact::Fact;
@@ -25,11 +25,7 @@ fn name_stands<R: Reading>(reading: &R, leaf: Leaf) -> bool
     ensures { result ≡ name_stands (R.Reading.held reading.now) leaf }
 {
     match leaf {
-        Leaf::Actor(actor) => reading.holds(Fact {
-            sort: 0,
-            x: actor,
-            y: 0,
-        }),
+        Leaf::Actor(actor) => stands(reading, actor),
         Leaf::Group(side, number, _) => reading.holds(Fact {
             sort: side.stands_sort(),
             x: number,
@@ -47,34 +43,25 @@ fn node_stands<R: Reading>(reading: &R, node: Node) -> bool
     }
 }
 
-fn absent_in<R: Reading>(reading: &R, nodes: &[Node]) -> Option<u8>
-    requires { length nodes.now ≤ 31 }
-    ensures { result ≡ first_absent (R.Reading.held reading.now) 0 nodes.now }
-{
-    for (i, node) in nodes.iter().enumerate() {
-        if !node_stands(reading, *node) {
-            return Some(i as u8);
-        }
-    }
-    None
-}
-
 /// The place of the first node that names an entity that does not stand.
 pub fn first_absent<R: Reading>(reading: &R, rule: &Rule) -> Option<u8>
     ensures { result ≡ first_absent (R.Reading.held reading.now) 0 (rule_nodes rule.now) }
 {
-    absent_in(reading, rule.nodes())
+    rule.nodes()
+        .iter()
+        .position(|node| !node_stands(reading, *node))
+        .map(|i| i as u8)
 }
 
 /// The set of those who qualify, if the rule is valid, or why it is not.
 pub fn validity<R: Reading>(reading: &R, rule: &Rule) -> Result<Bits, Invalid>
-    ensures { elim result [ Ok set ↦ Valid (R.Reading.held reading.now) (rule_tree rule.now) × ((a : ℕ) → Decides (bit set.word a) (Qualifies (R.Reading.held reading.now) (rule_tree rule.now) a)) | Err e ↦ Refutes (R.Reading.held reading.now) rule.now e ] }
+    ensures { Judged (R.Reading.held reading.now) rule.now result }
 {
     if let Some(place) = first_absent(reading, rule) {
         return Err(Invalid::Absent(place));
     }
     let set = who(reading, rule);
-    if set.word == 0 {
+    if set.is_empty() {
         return Err(Invalid::Nobody);
     }
     Ok(set)

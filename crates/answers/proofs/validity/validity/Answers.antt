@@ -5,19 +5,18 @@ use Rattle.bits.proofs.Laws.{bit-none, bit-some}
 use Rattle.answers.proofs.Naming.{names_checked}
 use Rattle.answers.proofs.validity.validity.Goals as goal
 
-pub returns-then-set-eq0 : goal.returns-then-set-eq0
-returns-then-set-eq0 g c =
-    let F = g.R.Reading.held c.args.reading.now in (
-      (names_checked F c.args.rule.now).0 (sym c.first_absent.ensures ∙ c.in_default.is),
-      λ s. both_ways (bit c.who-set.result.word s.0) (ap (λ (w : ℕ). bit w s.0) c.if-set-eq0.true ∙ bit-none s.0) ((c.who-set.ensures s.0).1 s.1),
-    )
+pub returns-then-is_empty : goal.returns-then-is_empty
+returns-then-is_empty g c = (
+  (names_checked (g.R.Reading.held c.args.reading.now) c.args.rule.now).0 (sym c.first_absent.ensures ∙ c.in_default.is),
+  λ s. both_ways (bit c.who-set.result.word s.0) (c.is_empty.ensures.0 c.if-is_empty.true s.0) ((c.who-set.ensures s.0).1 s.1),
+)
 
 pub returns : goal.returns
 returns g c =
-    let F = g.R.Reading.held c.args.reading.now in
-    let some = bit-some c.who-set.result.word c.if-set-eq0.false in (
+    let w = c.who-set.result.word in
+    let some = bit-some w (λ z. both_ways c.is_empty.result c.if-is_empty.false (c.is_empty.ensures.1 (λ k. ap (λ (x : ℕ). bit x k) z ∙ bit-none k))) in (
       record {
-        names = (names_checked F c.args.rule.now).0 (sym c.first_absent.ensures ∙ c.in_default.is);
+        names = (names_checked (g.R.Reading.held c.args.reading.now) c.args.rule.now).0 (sym c.first_absent.ensures ∙ c.in_default.is);
         somebody = (some.0, (c.who-set.ensures some.0).0 some.1);
       },
       c.who-set.ensures,
