@@ -1,10 +1,8 @@
 mod Rows
-pub mod SideFacts
-pub mod JoinSide
-pub mod SplitSide
 mod Replaced
 pub mod Verdicts
-pub mod Placement
+pub mod PlacedRows
 pub mod BookSlots
 pub mod Longest
 pub mod Taken
+mod SplitParts

@@ -1,5 +1,5 @@
 -- The rules that a split may make too long.
-use Rattle.std.proofs.Common.{◌≡◌, ℕ, ◌<◌, ◌≤◌, Bool, true, false, ltb, ◌⊎◌, Some, None, Option, sym, refl, ap, ◌∙◌, inl, inr, ⊎_elim, arith}
+use Rattle.std.proofs.Common.{◌≡◌, ℕ, ◌<◌, ◌≤◌, Bool, true, false, ltb, ◌⊎◌, Some, None, MatchOption, Option, sym, refl, ap, ◌∙◌, subst, inl, inr, ⊎_elim, arith}
 use Rattle.model.specs.declared.side.Side.{Side}
 use Rattle.rules.specs.Trees.{Tree}
 use Rattle.drafts.specs.Shares.{LowestLong, if_fits, parted_rule, too_long}
@@ -29,3 +29,15 @@ lowest-same k D B (Some s) (Some t) h j =
     (λ (e : s < t). absurd (apart (j.1 s e) h.0))
     (λ (e : t ≤ s). ⊎_elim (λ (d : t < s). absurd (apart (h.1 t d) j.0)) (λ (d : s ≤ t). omega arith) (before t s))
     (before s t))
+
+-- the same split has the same lowest slot
+pub lowest_of : (k j : Side) (D E : Parts) (B : Slots) (l : Option ℕ) → k ≡ j → D ≡ E → LowestLong k D B l → LowestLong j E B l
+lowest_of k j D E B l e f h = subst (λ (i : Side). LowestLong i E B l) e (subst (λ (P : Parts). LowestLong k P B l) f h)
+
+-- what a search from slot 0 up says, where no rule lies past the last slot
+pub lowest_found : (k : Side) (D : Parts) (B : Slots) (n : ℕ) → ((i : ℕ) → n ≤ i → B i ≡ None) → (r : Option ℕ)
+    → MatchOption r ((i : ℕ) → 0 ≤ i → i < n → too_long k D (B i) ≡ false)
+    (λ s. (0 ≤ s) × (s < n) × (too_long k D (B s) ≡ true) × ((i : ℕ) → 0 ≤ i → i < s → too_long k D (B i) ≡ false))
+    → LowestLong k D B r
+lowest_found k D B n empty None h = λ i. ⊎_elim (λ (e : i < n). h i (omega arith) e) (λ (e : n ≤ i). ap (too_long k D) (empty i e)) (before i n)
+lowest_found k D B n empty (Some s) h = (h.2, λ i e. h.3 i (omega arith) e)

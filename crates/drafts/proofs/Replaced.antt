@@ -8,7 +8,7 @@ use Rattle.model.specs.declared.side.Side.{Side}
 use Rattle.model.specs.declared.side.Side.TheVariants.{Role, Unit}
 use Rattle.model.proofs.Possible.{parts}
 use Rattle.drafts.specs.Sided.{sided, with_side}
-use Rattle.drafts.proofs.SideFacts.{at-stands, at_has, at_under, at_other, stands_low, has_pair, under_pair}
+use Rattle.drafts.specs.SideFacts.{at-stands, at_has, at_under, at_other, stands_low, has_pair, under_pair}
 
 -- the pairs of a side below y are those of G, and the rest is as in B
 abbrev pub so_far : Side → Facts → Facts → ℕ → Facts

@@ -3,8 +3,8 @@ use Rattle.std.proofs.Common.{◌≡◌, Bool, true, false, not, ◌&&◌, ◌||
 use Rattle.std.proofs.lemmas.Bool.Decides.{nat_tests}
 
 -- the two are out and the new one is in
-pub stands-row : (row was w1 w2 e f n l : Bool) → row ≡ was → w1 ≡ (row && not e) → w2 ≡ (w1 && not f) → l ≡ true → (w2 || (n && l)) ≡ (n || (not (e || f) && was))
-stands-row row was w1 w2 e f n l p q r s = grind (arith, nat_tests)
+pub stands-row : (r w row was jx xn l : Bool) → r ≡ (w || (xn && l)) → w ≡ (row && not jx) → row ≡ was → l ≡ true → r ≡ (xn || (not jx && was))
+stands-row r w row was jx xn l p q s t = grind (arith, nat_tests)
 
 -- the new one has the actors of both
 pub members-row : (r kept w both row r1 r2 jy yn hy he hf : Bool) → r ≡ (kept || w) → kept ≡ (not jy && row) → w ≡ (yn && both) → both ≡ (r1 || r2) → row ≡ hy → r1 ≡ he → r2 ≡ hf
@@ -12,18 +12,18 @@ pub members-row : (r kept w both row r1 r2 jy yn hy he hf : Bool) → r ≡ (kep
 members-row r kept w both row r1 r2 jy yn hy he hf p q s t u v z = grind (arith, nat_tests)
 
 -- below the new one is what was below either, and it is below what either was below
-below-same : (jy yn xn xe xf xy u a b : Bool)
-    → (((not jy && ((u && not (xe || xf)) || (xn && a))) || (yn && ((b && not xe) && not xf))) && not xy)
-    ≡ (not xy && ((xn && (not jy && a)) || (yn && (not (xe || xf) && b)) || (not (xe || xf) && (not jy && u))))
-below-same jy yn xn xe xf xy u a b = grind (arith, nat_tests)
+below-same : (jy yn xn jx xy u a b : Bool)
+    → (((not jy && ((u && not jx) || (xn && a))) || (yn && (b && not jx))) && not xy)
+    ≡ (not xy && ((xn && (not jy && a)) || (yn && (not jx && b)) || (not jx && (not jy && u))))
+below-same jy yn xn jx xy u a b = grind (arith, nat_tests)
 
-pub below_row : (r o kept m gained w1 w2 both row rowe rowf r1 r2 xe xf xn xy jy yn uxy uey ufy uxe uxf : Bool) → r ≡ (o && not xy) → o ≡ (kept || gained)
-    → kept ≡ (not jy && m) → m ≡ ((row && not (xe || xf)) || (xn && (rowe || rowf))) → gained ≡ (yn && w2) → w2 ≡ (w1 && not xf) → w1 ≡ (both && not xe)
+pub below_row : (r o kept m gained w both row rowe rowf r1 r2 jx xn xy jy yn uxy uey ufy uxe uxf : Bool) → r ≡ (o && not xy) → o ≡ (kept || gained)
+    → kept ≡ (not jy && m) → m ≡ ((row && not jx) || (xn && (rowe || rowf))) → gained ≡ (yn && w) → w ≡ (both && not jx)
     → both ≡ (r1 || r2) → row ≡ uxy → rowe ≡ uey → rowf ≡ ufy → r1 ≡ uxe → r2 ≡ uxf
-    → r ≡ (not xy && ((xn && (not jy && (uey || ufy))) || (yn && (not (xe || xf) && (uxe || uxf))) || (not (xe || xf) && (not jy && uxy))))
-below_row r o kept m gained w1 w2 both row rowe rowf r1 r2 xe xf xn xy jy yn uxy uey ufy uxe uxf a1 a2 a3 a4 a5 a6 a7 a8 a9 b1 b2 b3 b4 =
-    let all : r ≡ (((not jy && ((uxy && not (xe || xf)) || (xn && (uey || ufy)))) || (yn && (((uxe || uxf) && not xe) && not xf))) && not xy) = cc in
-    all ∙ below-same jy yn xn xe xf xy uxy (uey || ufy) (uxe || uxf)
+    → r ≡ (not xy && ((xn && (not jy && (uey || ufy))) || (yn && (not jx && (uxe || uxf))) || (not jx && (not jy && uxy))))
+below_row r o kept m gained w both row rowe rowf r1 r2 jx xn xy jy yn uxy uey ufy uxe uxf a1 a2 a3 a4 a5 a6 a7 a8 a9 b1 b2 b3 =
+    let all : r ≡ (((not jy && ((uxy && not jx) || (xn && (uey || ufy)))) || (yn && ((uxe || uxf) && not jx))) && not xy) = cc in
+    all ∙ below-same jy yn xn jx xy uxy (uey || ufy) (uxe || uxf)
 
 -- the whole is out and the parts are in
 pub parts_stand : (r w1 w0 row xe x1 x2 l1 l2 was : Bool) → r ≡ (w1 || (x2 && l2)) → w1 ≡ (w0 || (x1 && l1)) → w0 ≡ (row && not xe) → row ≡ was → l1 ≡ true → l2 ≡ true

@@ -1,7 +1,6 @@
 pub mod Sided
 pub mod Joining
 pub mod Splitting
-pub mod Parts
 pub mod Refusals
 pub mod Slots
 pub mod Grounds
@@ -10,4 +9,16 @@ pub mod Outcomes
 pub mod Steps
 pub mod States
 pub mod Inputs
+pub mod Checks
+pub mod Pairs
+pub mod Ranges
+pub mod Ends
+pub mod Circles
+pub mod Parts
+pub mod Read
+pub mod Edited
 pub mod Unmoved
+pub mod SideFacts
+pub mod JoinSide
+pub mod SplitSide
+pub mod Placement

@@ -37,6 +37,10 @@ abbrev pub too_long : Side → Parts → Option Tree → Bool
 too_long k D None = false
 too_long k D (Some t) = nat_lt 31 (length (nodes (parted_rule k D t)))
 
+-- The same of a rule.
+abbrev pub long_after : Side → Parts → Tree → Bool
+long_after k D t = too_long k D (Some t)
+
 -- The rule after the split, or as it was where it would get too long.
 abbrev pub if_fits : Side → Parts → Tree → Tree
 if_fits k D t = cond (too_long k D (Some t)) t (parted_rule k D t)

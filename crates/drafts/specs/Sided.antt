@@ -19,3 +19,7 @@ abbrev pub with_side : Facts → Side → Sided → Facts
 with_side F k S s x y =
     cond (s == stands_sort k) (y == 0 && S.stands x)
     (cond (s == has_sort k) (S.has x y) (cond (s == under_sort k) (S.under x y) (F s x y)))
+
+-- The model with the facts of one side changed so.
+abbrev pub side_changed : Side → (Sided → Sided) → Facts → Facts
+side_changed k change F = with_side F k (change (sided F k))

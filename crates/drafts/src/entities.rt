@@ -1,67 +1,58 @@
-ghost use Rattle.std.specs.Prelude.{◌≡◌, ℕ, Bool, true, false, None, Decides};
+ghost use Rattle.std.specs.Prelude.{◌≡◌, ℕ, Bool, true, Decides};
 ghost use Rattle.board.specs.Holding.{facts_of};
-ghost use Rattle.drafts.specs.Grounds.{InPair, add_verdict, lower_kind, remove_verdict, upper_kind};
+ghost use Rattle.drafts.specs.Checks.{Checked};
+ghost use Rattle.drafts.specs.Ends.{EndIn};
+ghost use Rattle.drafts.specs.Grounds.{InPair, add_verdict, remove_verdict};
+ghost use Rattle.drafts.specs.Pairs.{pair_number};
+ghost use Rattle.drafts.specs.Ranges.{stands_fact};
 ghost use Rattle.drafts.specs.States.{state_of};
 ghost use Rattle.drafts.specs.Steps.{Stepped};
 ghost use Rattle.drafts.specs.Unmoved.{Unmoved};
 ghost use Rattle.drafts.specs.declared.step.Step.TheVariants.{Add, Remove};
-ghost use Rattle.model.specs.Facts.{placed, possible};
+ghost use Rattle.model.specs.Facts.{placed};
 
 use crate::draft::Draft;
+use crate::pair::PairSort;
 use crate::refusal::Refusal;
 use crate::step::Entity;
 use model::fact::Fact;
+use model::possible_fact::PossibleFact;
 use model::reading::Reading;
+use model::side::Side;
 use model::store::Store;
 
-/// The kind of the lower end of a pair.
-pub(crate) fn lower_kind(sort: u8) -> u8
-    ensures { result ≡ lower_kind sort }
-{
-    if sort < 5 {
-        0
-    } else if sort == 5 {
-        1
-    } else {
-        2
-    }
-}
-
-/// The kind of the upper end of a pair.
-pub(crate) fn upper_kind(sort: u8) -> u8
-    ensures { result ≡ upper_kind sort }
-{
-    if sort == 3 || sort == 5 { 1 } else { 2 }
-}
-
 impl Draft {
-    // Writes a possible fact in or out.
-    pub(crate) fn write(&mut self, fact: Fact, held: bool)
-        requires { possible fact.sort fact.x fact.y ≡ true }
-        ensures facts { (s x y : ℕ) → facts_of self.new.board s x y ≡ placed (facts_of self.old.board) fact.sort fact.x fact.y held s x y }
+    // Writes a fact in or out.
+    pub(crate) fn write(&mut self, fact: PossibleFact, held: bool)
+        ensures facts { (s x y : ℕ) → facts_of self.new.board s x y ≡ placed (facts_of self.old.board) fact.fact.sort fact.fact.x fact.fact.y held s x y }
         ensures book { self.new.book ≡ self.old.book }
     {
         if held {
-            self.board.put(fact);
+            self.board.put(fact.fact);
         } else {
-            self.board.drop_fact(fact);
+            self.board.drop_fact(fact.fact);
         }
     }
 
-    fn judge_add(&self, entity: Entity) -> Option<Refusal>
-        ensures { result ≡ add_verdict (facts_of self.now.board) entity.kind entity.number }
+    // Whether the entity of this kind and number stands.
+    pub(crate) fn stands(&self, kind: u8, number: u8) -> bool
+        ensures { result ≡ facts_of self.now.board kind number 0 }
     {
-        if entity.kind >= 3 || entity.number >= 64 {
-            return Some(Refusal::Range(255));
-        }
-        if self.board.holds(Fact {
-            sort: entity.kind,
-            x: entity.number,
+        self.board.holds(Fact {
+            sort: kind,
+            x: number,
             y: 0,
-        }) {
-            return Some(Refusal::Standing);
+        })
+    }
+
+    fn may_add(&self, entity: Entity) -> Result<PossibleFact, Refusal>
+        ensures { Checked (add_verdict (facts_of self.now.board) entity.kind entity.number) (λ f. f.fact ≡ stands_fact entity) result }
+    {
+        let fact = PossibleFact::try_from(entity)?;
+        if self.stands(entity.kind, entity.number) {
+            return Err(Refusal::Standing);
         }
-        None
+        Ok(fact)
     }
 
     // The entity stands.
@@ -69,74 +60,54 @@ impl Draft {
         ensures stepped { Stepped (Add entity) (state_of self.old) result (state_of self.new) }
         ensures refused { Unmoved result self.old self.new }
     {
-        match self.judge_add(entity) {
-            Some(refusal) => Err(refusal),
-            None => {
-                self.write(
-                    Fact {
-                        sort: entity.kind,
-                        x: entity.number,
-                        y: 0,
-                    },
-                    true,
-                );
-                Ok(())
-            }
-        }
+        let fact = self.may_add(entity)?;
+        self.write(fact, true);
+        Ok(())
     }
 
     // Whether a pair of the sort has the number as its lower end.
     fn is_lower_end(&self, sort: u8, number: u8) -> bool
         ensures { Decides result ((y : ℕ) × (facts_of self.now.board sort number y ≡ true)) }
     {
-        for y in 0..64u8 {
-            if self.board.row(sort, y).has(number) {
-                return true;
-            }
-        }
-        false
+        (0..64u8).any(|y| self.board.row(sort, y).has(number))
     }
 
     // Whether a pair of the sort has the number as its upper end.
     fn is_upper_end(&self, sort: u8, number: u8) -> bool
         ensures { Decides result ((x : ℕ) × (facts_of self.now.board sort x number ≡ true)) }
     {
-        self.board.row(sort, number).word != 0
+        !self.board.row(sort, number).is_empty()
+    }
+
+    // Whether the entity is in a pair of the sort, at either end.
+    fn is_end(&self, sort: PairSort, entity: Entity) -> bool
+        ensures { Decides result (EndIn (facts_of self.now.board) (pair_number sort) entity.kind entity.number) }
+    {
+        sort.lower_kind() == entity.kind && self.is_lower_end(sort.number(), entity.number)
+            || sort.upper_kind() == entity.kind && self.is_upper_end(sort.number(), entity.number)
     }
 
     // Whether the entity is in a pair, at either end.
     fn is_paired(&self, entity: Entity) -> bool
         ensures { Decides result (InPair (facts_of self.now.board) entity.kind entity.number) }
     {
-        for sort in 3..7u8 {
-            if lower_kind(sort) == entity.kind && self.is_lower_end(sort, entity.number) {
-                return true;
-            }
-            if upper_kind(sort) == entity.kind && self.is_upper_end(sort, entity.number) {
-                return true;
-            }
-        }
-        false
+        self.is_end(PairSort::Has(Side::Role), entity)
+            || self.is_end(PairSort::Has(Side::Unit), entity)
+            || self.is_end(PairSort::Under(Side::Role), entity)
+            || self.is_end(PairSort::Under(Side::Unit), entity)
     }
 
-    fn judge_remove(&self, entity: Entity) -> Option<Refusal>
-        ensures possible { result ≡ None → possible entity.kind entity.number 0 ≡ true }
-        ensures verdict { (paired : Bool) → Decides paired (InPair (facts_of self.now.board) entity.kind entity.number) → result ≡ remove_verdict (facts_of self.now.board) entity.kind entity.number paired }
+    fn may_remove(&self, entity: Entity) -> Result<PossibleFact, Refusal>
+        ensures { (paired : Bool) → Decides paired (InPair (facts_of self.now.board) entity.kind entity.number) → Checked (remove_verdict (facts_of self.now.board) entity.kind entity.number paired) (λ f. f.fact ≡ stands_fact entity) result }
     {
-        if entity.kind >= 3 || entity.number >= 64 {
-            return Some(Refusal::Range(255));
-        }
-        if !self.board.holds(Fact {
-            sort: entity.kind,
-            x: entity.number,
-            y: 0,
-        }) {
-            return Some(Refusal::Absent);
+        let fact = PossibleFact::try_from(entity)?;
+        if !self.stands(entity.kind, entity.number) {
+            return Err(Refusal::Absent);
         }
         if self.is_paired(entity) {
-            return Some(Refusal::Paired);
+            return Err(Refusal::Paired);
         }
-        None
+        Ok(fact)
     }
 
     // The entity, which is in no pair, stands no more.
@@ -144,19 +115,8 @@ impl Draft {
         ensures stepped { Stepped (Remove entity) (state_of self.old) result (state_of self.new) }
         ensures refused { Unmoved result self.old self.new }
     {
-        match self.judge_remove(entity) {
-            Some(refusal) => Err(refusal),
-            None => {
-                self.write(
-                    Fact {
-                        sort: entity.kind,
-                        x: entity.number,
-                        y: 0,
-                    },
-                    false,
-                );
-                Ok(())
-            }
-        }
+        let fact = self.may_remove(entity)?;
+        self.write(fact, false);
+        Ok(())
     }
 }

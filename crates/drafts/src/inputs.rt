@@ -1,85 +1,177 @@
-ghost use Rattle.drafts.specs.Inputs.{input_verdict, range_then_same, step_slot};
-ghost use Rattle.drafts.specs.Grounds.{entity_range, put_verdict};
-ghost use Rattle.drafts.specs.declared.step.Step.TheVariants.{Relink as RelinkStep};
-ghost use Rattle.rules.specs.Scan.{fault_of};
-ghost use Rattle.std.specs.Prelude.{◌≡◌};
+ghost use Rattle.std.specs.Prelude.{◌≡◌, ◌<◌, OnOk};
+ghost use Rattle.drafts.specs.Checks.{Checked, TreeChecked};
+ghost use Rattle.drafts.specs.Inputs.{input_verdict, step_slot};
+ghost use Rattle.drafts.specs.Outcomes.{answered};
+ghost use Rattle.drafts.specs.Read.{ExchangeOf, JoinOf, SplitRead, StandingOf};
+ghost use Rattle.drafts.specs.declared.step.Step.TheVariants.{PutRule, RemoveRule};
 
-use crate::joins::are_groups;
-use crate::pairs::is_pair;
+use crate::pair::{Exchange, Pair};
+use crate::range::{JoinInRange, Share, SplitInRange};
 use crate::refusal::Refusal;
-use crate::step::{Entity, Relink, Step};
+use crate::step::{Entity, Join, Relink, Split, Step};
+use bits::Bits;
 use model::fact::Fact;
+use model::possible_fact::PossibleFact;
+use model::side::Side;
 use rules::bytes::NodeBytes;
+use rules::change::{Joining, Splitting};
 use rules::fault::Fault;
 use rules::rule::Rule;
 
-fn range_then_same(in_range: bool, same: bool) -> Option<Refusal>
-    ensures { result ≡ range_then_same in_range same }
-{
-    if !in_range {
-        Some(Refusal::Range(255))
-    } else if same {
-        Some(Refusal::Same)
-    } else {
-        None
+/// The fact that the entity stands, if kind and number are in range.
+impl TryFrom<Entity> for PossibleFact {
+    type Error = Refusal;
+
+    ghost try_from_gives = { StandingOf };
+
+    fn try_from(entity: Entity) -> Result<PossibleFact, Refusal> {
+        if entity.kind >= 3 || entity.number >= 64 {
+            return Err(Refusal::Range(255));
+        }
+        Ok(PossibleFact {
+            fact: Fact {
+                sort: entity.kind,
+                x: entity.number,
+                y: 0,
+            },
+        })
     }
 }
 
-fn is_entity(entity: Entity) -> bool
-    ensures { result ≡ entity_range entity.kind entity.number }
-{
-    entity.kind < 3 && entity.number < 64
+/// The old pair and the new one, if sort and numbers are in range and the new pair may be held.
+impl TryFrom<Relink> for Exchange {
+    type Error = Refusal;
+
+    ghost try_from_gives = { ExchangeOf };
+
+    fn try_from(step: Relink) -> Result<Exchange, Refusal> {
+        let Relink { sort, x, y, z } = step;
+        let old = Pair::try_from(Fact { sort, x, y })?;
+        let new = Pair::try_from(Fact { sort, x, y: z })?;
+        if y == z || new.is_loop() {
+            return Err(Refusal::Same);
+        }
+        Ok(Exchange { old, new })
+    }
 }
 
-fn relink_refusal(step: Relink) -> Option<Refusal>
-    ensures { result ≡ input_verdict (RelinkStep step) }
-{
-    let Relink { sort, x, y, z } = step;
-    range_then_same(
-        is_pair(Fact { sort, x, y }) && is_pair(Fact { sort, x, y: z }),
-        y == z || sort >= 5 && x == z,
-    )
+/// The join with its side, if kind and numbers are in range and the two differ.
+impl TryFrom<Join> for JoinInRange {
+    type Error = Refusal;
+
+    ghost try_from_gives = { JoinOf };
+
+    fn try_from(step: Join) -> Result<JoinInRange, Refusal> {
+        let side = Side::try_from(step.kind)?;
+        if step.first >= 64 || step.second >= 64 || step.into >= 64 {
+            return Err(Refusal::Range(255));
+        }
+        if step.first == step.second {
+            return Err(Refusal::Same);
+        }
+        Ok(JoinInRange {
+            joining: Joining {
+                side,
+                first: step.first,
+                second: step.second,
+                into: step.into,
+            },
+        })
+    }
 }
 
-// A list with no nodes or too many, then the slot, then what the nodes show.
-fn put_refusal(slot: u8, list: &[NodeBytes]) -> Option<Refusal>
-    ensures { result ≡ put_verdict slot (fault_of list.now) }
+/// The split with its side, if kind and numbers are in range and the parts differ.
+impl TryFrom<Split> for SplitInRange {
+    type Error = Refusal;
+
+    ghost try_from_gives = { SplitRead };
+
+    fn try_from(step: Split) -> Result<SplitInRange, Refusal> {
+        let side = Side::try_from(step.kind)?;
+        if step.whole >= 64 || step.part1 >= 64 || step.part2 >= 64 {
+            return Err(Refusal::Range(255));
+        }
+        if step.part1 == step.part2 {
+            return Err(Refusal::Same);
+        }
+        Ok(SplitInRange {
+            splitting: Splitting {
+                side,
+                whole: step.whole,
+                part1: step.part1,
+                part2: step.part2,
+            },
+            share1: Share {
+                actors: Bits { word: step.actors1 },
+                below: Bits { word: step.below1 },
+            },
+            share2: Share {
+                actors: Bits { word: step.actors2 },
+                below: Bits { word: step.below2 },
+            },
+        })
+    }
+}
+
+// The rule that the list is. A list with no nodes or too many goes before the slot, and what the nodes show after it.
+pub(crate) fn checked_rule(slot: u8, list: &[NodeBytes]) -> Result<Rule, Refusal>
+    ensures { Checked (input_verdict (PutRule slot list.entry)) (TreeChecked slot list.now) result }
 {
     match Rule::read(list) {
-        Err(Fault::Length) => Some(Refusal::List(slot, Fault::Length)),
-        _ if slot >= 32 => Some(Refusal::Range(slot)),
-        Err(fault) => Some(Refusal::List(slot, fault)),
-        Ok(_) => None,
+        Err(Fault::Length) => Err(Refusal::List(slot, Fault::Length)),
+        Err(fault) => {
+            checked_slot(slot)?;
+            Err(Refusal::List(slot, fault))
+        }
+        Ok(rule) => {
+            checked_slot(slot)?;
+            Ok(rule)
+        }
+    }
+}
+
+// Whether a book has the slot.
+pub(crate) fn checked_slot(slot: u8) -> Result<(), Refusal>
+    ensures verdict { result ≡ answered (input_verdict (RemoveRule slot)) }
+    ensures within { OnOk result (slot < 32) }
+{
+    if slot < 32 {
+        Ok(())
+    } else {
+        Err(Refusal::Range(slot))
     }
 }
 
 impl Step<'_> {
-    /// The first ground on which the step is refused whatever the draft holds, if its input shows one.
-    pub fn input_refusal(self) -> Option<Refusal>
-        ensures { result ≡ input_verdict self.entry }
+    /// Refuses the step on the first ground that its input shows, whatever the draft holds, if it shows one.
+    pub fn check_input(self) -> Result<(), Refusal>
+        ensures { result ≡ answered (input_verdict self.entry) }
     {
         match self {
-            Step::Add(entity) | Step::Remove(entity) => range_then_same(is_entity(entity), false),
-            Step::Link(pair) => range_then_same(is_pair(pair), pair.sort >= 5 && pair.x == pair.y),
-            Step::Unlink(pair) => range_then_same(is_pair(pair), false),
-            Step::Relink(relink) => relink_refusal(relink),
-            Step::Join(join) => range_then_same(
-                are_groups(join.kind, join.first, join.second, join.into),
-                join.first == join.second,
-            ),
-            Step::Split(split) => range_then_same(
-                are_groups(split.kind, split.whole, split.part1, split.part2),
-                split.part1 == split.part2,
-            ),
-            Step::PutRule(slot, list) => put_refusal(slot, list),
-            Step::RemoveRule(slot) => {
-                if slot < 32 {
-                    None
-                } else {
-                    Some(Refusal::Range(slot))
-                }
+            Step::Add(entity) | Step::Remove(entity) => {
+                PossibleFact::try_from(entity)?;
             }
+            Step::Link(pair) => {
+                Pair::to_hold(pair)?;
+            }
+            Step::Unlink(pair) => {
+                Pair::try_from(pair)?;
+            }
+            Step::Relink(relink) => {
+                Exchange::try_from(relink)?;
+            }
+            Step::Join(join) => {
+                JoinInRange::try_from(join)?;
+            }
+            Step::Split(split) => {
+                SplitInRange::try_from(split)?;
+            }
+            Step::PutRule(slot, list) => {
+                checked_rule(slot, list)?;
+            }
+            Step::RemoveRule(slot) => checked_slot(slot)?,
         }
+        Ok(())
     }
 
     /// The slot that is handed in with the step, or 255 where there is none.

@@ -1,89 +1,68 @@
-ghost use Rattle.std.specs.Prelude.{◌≡◌, ℕ, Bool, true, false, None, Decides};
+ghost use Rattle.std.specs.Prelude.{◌≡◌, ℕ, Bool, true, false, Decides};
 ghost use Rattle.board.specs.Holding.{facts_of};
-ghost use Rattle.drafts.specs.Grounds.{LinkCircle, RelinkCircle, ends_stand, hierarchy, link_verdict, pair_range, relink_verdict, side_of_sort, unlink_verdict};
+ghost use Rattle.drafts.specs.Checks.{Checked};
+ghost use Rattle.drafts.specs.Grounds.{LinkCircle, RelinkCircle, ends_stand, link_verdict, relink_verdict, unlink_verdict};
+ghost use Rattle.drafts.specs.Circles.{Exchanged};
+ghost use Rattle.drafts.specs.Pairs.{fact_of, pair_number};
+ghost use Rattle.drafts.specs.Read.{PairsOf};
 ghost use Rattle.drafts.specs.States.{state_of};
 ghost use Rattle.drafts.specs.Steps.{Stepped};
 ghost use Rattle.drafts.specs.Unmoved.{Unmoved};
 ghost use Rattle.drafts.specs.declared.step.Step.TheVariants.{Link as LinkStep, Relink as RelinkStep, Unlink as UnlinkStep};
-ghost use Rattle.model.specs.Chains.{Circle};
-ghost use Rattle.model.specs.Facts.{placed, possible};
 
 use crate::draft::Draft;
-use crate::entities::{lower_kind, upper_kind};
+use crate::pair::{Exchange, Pair, PairSort};
 use crate::placed::Placed;
 use crate::refusal::Refusal;
 use crate::step::Relink;
 use model::chains::has_circle;
 use model::fact::Fact;
 use model::reading::Reading;
-use model::side::Side;
-
-fn side_of_sort(sort: u8) -> Side
-    ensures { result ≡ side_of_sort sort }
-{
-    if sort == 5 { Side::Role } else { Side::Unit }
-}
-
-pub(crate) fn is_pair(pair: Fact) -> bool
-    ensures range { result ≡ pair_range pair.sort pair.x pair.y }
-    ensures possible { result ≡ true → possible pair.sort pair.x pair.y ≡ true }
-{
-    pair.sort >= 3 && pair.sort < 7 && pair.x < 64 && pair.y < 64
-}
 
 impl Draft {
-    pub(crate) fn stands(&self, kind: u8, number: u8) -> bool
-        ensures { result ≡ facts_of self.now.board kind number 0 }
+    fn ends_stand(&self, pair: Pair) -> bool
+        ensures { result ≡ ends_stand (facts_of self.now.board) (pair_number pair.sort) pair.x pair.y }
     {
-        self.board.holds(Fact {
-            sort: kind,
-            x: number,
-            y: 0,
-        })
+        self.stands(pair.sort.lower_kind(), pair.x) && self.stands(pair.sort.upper_kind(), pair.y)
     }
 
-    fn ends_stand(&self, pair: Fact) -> bool
-        ensures { result ≡ ends_stand (facts_of self.now.board) pair.sort pair.x pair.y }
+    fn is_held(&self, pair: Pair) -> bool
+        ensures { result ≡ facts_of self.now.board (pair_number pair.sort) pair.x pair.y }
     {
-        self.stands(lower_kind(pair.sort), pair.x) && self.stands(upper_kind(pair.sort), pair.y)
+        self.board.holds(pair.fact().fact)
     }
 
     // Whether the pair, put in, would close a circle.
-    fn link_circles(&self, pair: Fact) -> bool
-        requires { pair_range pair.sort pair.x pair.y ≡ true }
-        ensures { Decides result (LinkCircle (facts_of self.now.board) pair.sort pair.x pair.y) }
+    fn link_circles(&self, pair: Pair) -> bool
+        ensures { Decides result (LinkCircle (facts_of self.now.board) (pair_number pair.sort) pair.x pair.y) }
     {
-        if pair.sort < 5 {
-            return false;
+        match pair.sort {
+            PairSort::Has(_) => false,
+            PairSort::Under(side) => {
+                let after = Placed {
+                    reading: &self.board,
+                    fact: pair.fact(),
+                    held: true,
+                };
+                has_circle(&after, side)
+            }
         }
-        let after = Placed {
-            reading: &self.board,
-            fact: pair,
-            held: true,
-        };
-        has_circle(&after, side_of_sort(pair.sort))
     }
 
-    fn judge_link(&self, pair: Fact) -> Option<Refusal>
-        ensures possible { result ≡ None → possible pair.sort pair.x pair.y ≡ true }
-        ensures verdict { (circle : Bool) → Decides circle (LinkCircle (facts_of self.now.board) pair.sort pair.x pair.y) → result ≡ link_verdict (facts_of self.now.board) pair.sort pair.x pair.y circle }
+    fn may_link(&self, pair: Fact) -> Result<Pair, Refusal>
+        ensures { (circle : Bool) → Decides circle (LinkCircle (facts_of self.now.board) pair.sort pair.x pair.y) → Checked (link_verdict (facts_of self.now.board) pair.sort pair.x pair.y circle) (λ p. fact_of p ≡ pair) result }
     {
-        if !is_pair(pair) {
-            return Some(Refusal::Range(255));
-        }
-        if pair.sort >= 5 && pair.x == pair.y {
-            return Some(Refusal::Same);
-        }
+        let pair = Pair::to_hold(pair)?;
         if !self.ends_stand(pair) {
-            return Some(Refusal::Absent);
+            return Err(Refusal::Absent);
         }
-        if self.board.holds(pair) {
-            return Some(Refusal::Held);
+        if self.is_held(pair) {
+            return Err(Refusal::Held);
         }
         if self.link_circles(pair) {
-            return Some(Refusal::Circle);
+            return Err(Refusal::Circle);
         }
-        None
+        Ok(pair)
     }
 
     // The pair is held.
@@ -91,28 +70,22 @@ impl Draft {
         ensures stepped { Stepped (LinkStep pair) (state_of self.old) result (state_of self.new) }
         ensures refused { Unmoved result self.old self.new }
     {
-        match self.judge_link(pair) {
-            Some(refusal) => Err(refusal),
-            None => {
-                self.write(pair, true);
-                Ok(())
-            }
-        }
+        let pair = self.may_link(pair)?;
+        self.write(pair.fact(), true);
+        Ok(())
     }
 
-    fn judge_unlink(&self, pair: Fact) -> Option<Refusal>
-        ensures { result ≡ unlink_verdict (facts_of self.now.board) pair.sort pair.x pair.y }
+    fn may_unlink(&self, pair: Fact) -> Result<Pair, Refusal>
+        ensures { Checked (unlink_verdict (facts_of self.now.board) pair.sort pair.x pair.y) (λ p. fact_of p ≡ pair) result }
     {
-        if !is_pair(pair) {
-            return Some(Refusal::Range(255));
-        }
+        let pair = Pair::try_from(pair)?;
         if !self.ends_stand(pair) {
-            return Some(Refusal::Absent);
+            return Err(Refusal::Absent);
         }
-        if !self.board.holds(pair) {
-            return Some(Refusal::NotHeld);
+        if !self.is_held(pair) {
+            return Err(Refusal::NotHeld);
         }
-        None
+        Ok(pair)
     }
 
     // The pair is held no more.
@@ -120,106 +93,62 @@ impl Draft {
         ensures stepped { Stepped (UnlinkStep pair) (state_of self.old) result (state_of self.new) }
         ensures refused { Unmoved result self.old self.new }
     {
-        match self.judge_unlink(pair) {
-            Some(refusal) => Err(refusal),
-            None => {
-                self.write(pair, false);
-                Ok(())
+        let pair = self.may_unlink(pair)?;
+        self.write(pair.fact(), false);
+        Ok(())
+    }
+
+    // Whether the exchange would close a circle.
+    fn relink_circles(&self, exchange: Exchange) -> bool
+        ensures { Decides result (Exchanged (facts_of self.now.board) exchange) }
+    {
+        let Exchange { old, new } = exchange;
+        match new.sort {
+            PairSort::Has(_) => false,
+            PairSort::Under(side) => {
+                let without = Placed {
+                    reading: &self.board,
+                    fact: old.fact(),
+                    held: false,
+                };
+                let after = Placed {
+                    reading: &without,
+                    fact: new.fact(),
+                    held: true,
+                };
+                has_circle(&after, side)
             }
         }
     }
 
-    // Whether the pair (x, y), become (x, z), would close a circle.
-    fn relink_circles(&self, old: Fact, new: Fact) -> bool
-        requires old { pair_range old.sort old.x old.y ≡ true }
-        requires new { pair_range new.sort new.x new.y ≡ true }
-        ensures { Decides result ((hierarchy new.sort ≡ true) × Circle (placed (placed (facts_of self.now.board) old.sort old.x old.y false) new.sort new.x new.y true) (side_of_sort new.sort)) }
+    fn may_relink(&self, step: Relink) -> Result<Exchange, Refusal>
+        ensures { (circle : Bool) → Decides circle (RelinkCircle (facts_of self.now.board) step.sort step.x step.y step.z) → Checked (relink_verdict (facts_of self.now.board) step.sort step.x step.y step.z circle) (PairsOf step) result }
     {
-        if new.sort < 5 {
-            return false;
+        let exchange = Exchange::try_from(step)?;
+        let Exchange { old, new } = exchange;
+        if !self.ends_stand(old) || !self.stands(new.sort.upper_kind(), new.y) {
+            return Err(Refusal::Absent);
         }
-        let without = Placed {
-            reading: &self.board,
-            fact: old,
-            held: false,
-        };
-        let after = Placed {
-            reading: &without,
-            fact: new,
-            held: true,
-        };
-        has_circle(&after, side_of_sort(new.sort))
+        if self.is_held(new) {
+            return Err(Refusal::Held);
+        }
+        if !self.is_held(old) {
+            return Err(Refusal::NotHeld);
+        }
+        if self.relink_circles(exchange) {
+            return Err(Refusal::Circle);
+        }
+        Ok(exchange)
     }
 
-    fn judge_relink(&self, step: Relink) -> Option<Refusal>
-        ensures old { result ≡ None → possible step.sort step.x step.y ≡ true }
-        ensures new { result ≡ None → possible step.sort step.x step.z ≡ true }
-        ensures verdict { (circle : Bool) → Decides circle (RelinkCircle (facts_of self.now.board) step.sort step.x step.y step.z) → result ≡ relink_verdict (facts_of self.now.board) step.sort step.x step.y step.z circle }
-    {
-        let old = Fact {
-            sort: step.sort,
-            x: step.x,
-            y: step.y,
-        };
-        let new = Fact {
-            sort: step.sort,
-            x: step.x,
-            y: step.z,
-        };
-        if !is_pair(old) || !is_pair(new) {
-            return Some(Refusal::Range(255));
-        }
-        if step.y == step.z || step.sort >= 5 && step.x == step.z {
-            return Some(Refusal::Same);
-        }
-        if !self.ends_stand(old) || !self.stands(upper_kind(step.sort), step.z) {
-            return Some(Refusal::Absent);
-        }
-        if self.board.holds(new) {
-            return Some(Refusal::Held);
-        }
-        if !self.board.holds(old) {
-            return Some(Refusal::NotHeld);
-        }
-        if self.relink_circles(old, new) {
-            return Some(Refusal::Circle);
-        }
-        None
-    }
-
-    // The old fact is held no more, then the new one is held.
-    fn exchange(&mut self, old: Fact, new: Fact)
-        requires old { possible old.sort old.x old.y ≡ true }
-        requires new { possible new.sort new.x new.y ≡ true }
-        ensures facts { (s x y : ℕ) → facts_of self.new.board s x y ≡ placed (placed (facts_of self.old.board) old.sort old.x old.y false) new.sort new.x new.y true s x y }
-        ensures book { self.new.book ≡ self.old.book }
-    {
-        self.write(old, false);
-        self.write(new, true);
-    }
-
-    // The pair (x, y) becomes (x, z).
+    // The pair (x, y) becomes (x, z): it is held no more, then the new one is held.
     pub(crate) fn relink(&mut self, step: Relink) -> Result<(), Refusal>
         ensures stepped { Stepped (RelinkStep step) (state_of self.old) result (state_of self.new) }
         ensures refused { Unmoved result self.old self.new }
     {
-        match self.judge_relink(step) {
-            Some(refusal) => Err(refusal),
-            None => {
-                self.exchange(
-                    Fact {
-                        sort: step.sort,
-                        x: step.x,
-                        y: step.y,
-                    },
-                    Fact {
-                        sort: step.sort,
-                        x: step.x,
-                        y: step.z,
-                    },
-                );
-                Ok(())
-            }
-        }
+        let Exchange { old, new } = self.may_relink(step)?;
+        self.write(old.fact(), false);
+        self.write(new.fact(), true);
+        Ok(())
     }
 }

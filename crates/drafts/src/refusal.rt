@@ -1,6 +1,8 @@
 ghost use Rattle.drafts.specs.Refusals.{refusal_numbers};
+ghost use Rattle.drafts.specs.declared.refusal.Refusal.TheVariants.{Range};
 ghost use Rattle.std.specs.Prelude.{◌≡◌};
 
+use model::side::NoSide;
 use rules::fault::{Fault, Numbers};
 
 /// Why a step is refused.
@@ -57,5 +59,13 @@ impl Refusal {
             slot,
             node: 255,
         }
+    }
+}
+
+impl From<NoSide> for Refusal {
+    ghost from_gives = { λ _ refusal. refusal ≡ Range 255 };
+
+    fn from(_kind: NoSide) -> Refusal {
+        Refusal::Range(255)
     }
 }

@@ -2,7 +2,6 @@ ghost use Rattle.std.specs.Prelude.{◌≡◌, ℕ};
 ghost use Rattle.board.specs.Holding.{facts_of};
 ghost use Rattle.drafts.specs.Sided.{sided, with_side};
 
-use bits::Bits;
 use board::Board;
 use model::reading::Reading;
 use model::side::Side;

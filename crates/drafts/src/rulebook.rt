@@ -7,10 +7,10 @@ ghost use Rattle.drafts.specs.declared.step.Step.TheVariants.{PutRule, RemoveRul
 ghost use Rattle.rules.specs.Rules.{rule_tree};
 
 use crate::draft::Draft;
+use crate::inputs::{checked_rule, checked_slot};
 use crate::refusal::Refusal;
 use rules::book::Book;
 use rules::bytes::NodeBytes;
-use rules::fault::Fault;
 use rules::rule::Rule;
 
 // Puts a rule into a slot that a book has.
@@ -34,20 +34,9 @@ impl Draft {
         ensures stepped { Stepped (PutRule slot list.entry) (state_of self.old) result (state_of self.new) }
         ensures refused { Unmoved result self.old self.new }
     {
-        let read = Rule::read(list);
-        if let Err(Fault::Length) = read {
-            return Err(Refusal::List(slot, Fault::Length));
-        }
-        if slot >= 32 {
-            return Err(Refusal::Range(slot));
-        }
-        match read {
-            Err(fault) => Err(Refusal::List(slot, fault)),
-            Ok(rule) => {
-                write_rule(&mut self.book, slot, rule);
-                Ok(())
-            }
-        }
+        let rule = checked_rule(slot, list)?;
+        write_rule(&mut self.book, slot, rule);
+        Ok(())
     }
 
     // The slot is empty.
@@ -55,9 +44,7 @@ impl Draft {
         ensures stepped { Stepped (RemoveRule slot) (state_of self.old) result (state_of self.new) }
         ensures refused { Unmoved result self.old self.new }
     {
-        if slot >= 32 {
-            return Err(Refusal::Range(slot));
-        }
+        checked_slot(slot)?;
         if self.book.rule(slot).is_none() {
             return Err(Refusal::Empty(slot));
         }

@@ -1,119 +1,62 @@
-ghost use Rattle.std.specs.Prelude.{◌≡◌, ℕ, ◌<◌, Bool, ◌||◌, if◌then◌else◌, None, Decides, Option, nat_eq};
+ghost use Rattle.std.specs.Prelude.{◌≡◌, ℕ, Bool, ◌||◌, Decides, Option};
 ghost use Rattle.bits.specs.Bit.{bit};
 ghost use Rattle.board.specs.Holding.{facts_of};
+ghost use Rattle.drafts.specs.Checks.{Checked};
 ghost use Rattle.drafts.specs.Grounds.{parting_verdict, side_of_kind, split_verdict};
-ghost use Rattle.drafts.specs.Shares.{LowestLong, SharesFit, if_fits, parts_in, too_long};
-ghost use Rattle.drafts.specs.Slots.{each_edited, edited, slots_of};
-ghost use Rattle.drafts.specs.Splitting.{parted};
+ghost use Rattle.drafts.specs.Parts.{FittingSplit, SplitOf, parts_of};
+ghost use Rattle.drafts.specs.Shares.{LowestLong, SharesFit, parts_in, too_long};
+ghost use Rattle.drafts.specs.Slots.{slots_of};
 ghost use Rattle.drafts.specs.States.{state_of};
 ghost use Rattle.drafts.specs.Steps.{Stepped};
 ghost use Rattle.drafts.specs.Unmoved.{Unmoved};
 ghost use Rattle.drafts.specs.declared.step.Step.TheVariants.{Split as SplitStep};
 
 use crate::draft::Draft;
-use crate::joins::{are_groups, side_of_kind};
-use crate::parted::Parted;
+use crate::range::SplitInRange;
 use crate::refusal::Refusal;
-use crate::replace::replace_side;
+use crate::regrouping::Regrouping;
+use crate::side_rows::SideRows;
 use crate::step::Split;
 use bits::Bits;
-use board::Board;
-use model::reading::Reading;
 use rules::book::Book;
 
-// Splits a role, or a unit, on a board.
-fn split_board(board: &mut Board, step: Split)
-    requires first { step.part1 < 64 }
-    requires second { step.part2 < 64 }
-    ensures { (s x y : ℕ) → facts_of board.new s x y ≡ parted (side_of_kind step.kind) (parts_in step) (facts_of board.old) s x y }
+// Whether the two shares are together just the set.
+fn are_together(first: Bits, second: Bits, set: Bits) -> bool
+    ensures { Decides result ((i : ℕ) → (bit first.word i || bit second.word i) ≡ bit set.word i) }
 {
-    let side = side_of_kind(step.kind);
-    let before = *board;
-    let after = Parted {
-        reading: &before,
-        side,
-        whole: step.whole,
-        part1: step.part1,
-        part2: step.part2,
-        actors1: Bits { word: step.actors1 },
-        actors2: Bits { word: step.actors2 },
-        below1: Bits { word: step.below1 },
-        below2: Bits { word: step.below2 },
-    };
-    replace_side(board, side, &after);
-}
-
-// Splits a role, or a unit, in one slot, where the rule does not get too long.
-fn split_slot(book: &mut Book, slot: u8, step: Split)
-    requires first { step.part1 < 64 }
-    requires second { step.part2 < 64 }
-    ensures { (i : ℕ) → slots_of book.new i ≡ (if nat_eq i slot then edited (if_fits (side_of_kind step.kind) (parts_in step)) (slots_of book.old i) else slots_of book.old i) }
-{
-    let split_rule = match book.rule(slot) {
-        Some(rule) => rule.split(side_of_kind(step.kind), step.whole, step.part1, step.part2),
-        None => None,
-    };
-    if let Some(rule) = split_rule {
-        book.put(slot, rule);
-    }
-}
-
-// Splits a role, or a unit, in every slot.
-fn split_book(book: &mut Book, step: Split)
-    requires first { step.part1 < 64 }
-    requires second { step.part2 < 64 }
-    ensures { (i : ℕ) → slots_of book.new i ≡ each_edited (if_fits (side_of_kind step.kind) (parts_in step)) (slots_of book.old) i }
-{
-    for slot in 0..32u8 {
-        split_slot(book, slot, step);
-    }
+    first.or(second) == set
 }
 
 // Whether the rule in the slot would get too long.
-fn is_too_long(book: &Book, slot: u8, step: Split) -> bool
-    requires first { step.part1 < 64 }
-    requires second { step.part2 < 64 }
-    ensures { result ≡ too_long (side_of_kind step.kind) (parts_in step) (slots_of book.now slot) }
+fn is_too_long(book: &Book, slot: u8, split: &SplitInRange) -> bool
+    ensures { result ≡ too_long split.now.splitting.side (parts_of split.now) (slots_of book.now slot) }
 {
-    match book.rule(slot) {
-        Some(rule) => rule
-            .split(side_of_kind(step.kind), step.whole, step.part1, step.part2)
-            .is_none(),
-        None => false,
-    }
-}
-
-// Whether the two shares are together just the set.
-fn are_together(first: u64, second: u64, set: Bits) -> bool
-    ensures { Decides result ((i : ℕ) → (bit first i || bit second i) ≡ bit set.word i) }
-{
-    first | second == set.word
+    book.rule(slot)
+        .is_some_and(|rule| split.rule(rule).is_none())
 }
 
 // The lowest slot whose rule would get too long.
-fn long_slot(book: &Book, step: Split) -> Option<u8>
-    requires first { step.part1 < 64 }
-    requires second { step.part2 < 64 }
-    ensures { LowestLong (side_of_kind step.kind) (parts_in step) (slots_of book.now) result }
+fn long_slot(book: &Book, split: &SplitInRange) -> Option<u8>
+    ensures { LowestLong split.now.splitting.side (parts_of split.now) (slots_of book.now) result }
 {
-    for slot in 0..32u8 {
-        if is_too_long(book, slot, step) {
-            return Some(slot);
-        }
-    }
-    None
+    (0..32u8).find(|slot| is_too_long(book, *slot, split))
 }
 
 impl Draft {
     // Whether the shares are together just the whole's.
-    fn shares_fit(&self, step: Split) -> bool
-        ensures { Decides result (SharesFit (facts_of self.now.board) (side_of_kind step.kind) (parts_in step)) }
+    fn shares_fit(&self, split: &SplitInRange) -> bool
+        ensures { Decides result (SharesFit (facts_of self.now.board) split.now.splitting.side (parts_of split.now)) }
     {
-        let side = side_of_kind(step.kind);
-        let actors = self.board.row(side.has_sort(), step.whole);
-        let below = self.board.row(side.under_sort(), step.whole);
-        are_together(step.actors1, step.actors2, actors)
-            && are_together(step.below1, step.below2, below)
+        let before = SideRows {
+            reading: &self.board,
+            side: split.side(),
+        };
+        let whole = split.splitting.whole;
+        are_together(
+            split.share1.actors,
+            split.share2.actors,
+            before.members(whole),
+        ) && are_together(split.share1.below, split.share2.below, before.below(whole))
     }
 
     // Whether one of the two parts stands.
@@ -123,41 +66,30 @@ impl Draft {
         self.stands(step.kind, step.part1) || self.stands(step.kind, step.part2)
     }
 
-    fn judge_parting(&self, step: Split) -> Option<Refusal>
-        ensures first { result ≡ None → step.part1 < 64 }
-        ensures second { result ≡ None → step.part2 < 64 }
-        ensures verdict { (shares : Bool) → Decides shares (SharesFit (facts_of self.now.board) (side_of_kind step.kind) (parts_in step)) → result ≡ parting_verdict (facts_of self.now.board) step.kind step.whole step.part1 step.part2 shares }
+    // The grounds that the model shows.
+    fn may_part(&self, step: Split) -> Result<SplitInRange, Refusal>
+        ensures { (shares : Bool) → Decides shares (SharesFit (facts_of self.now.board) (side_of_kind step.kind) (parts_in step)) → Checked (parting_verdict (facts_of self.now.board) step.kind step.whole step.part1 step.part2 shares) (SplitOf step) result }
     {
-        if !are_groups(step.kind, step.whole, step.part1, step.part2) {
-            return Some(Refusal::Range(255));
-        }
-        if step.part1 == step.part2 {
-            return Some(Refusal::Same);
-        }
+        let split = SplitInRange::try_from(step)?;
         if !self.stands(step.kind, step.whole) {
-            return Some(Refusal::Absent);
+            return Err(Refusal::Absent);
         }
         if self.part_stands(step) {
-            return Some(Refusal::Standing);
+            return Err(Refusal::Standing);
         }
-        if !self.shares_fit(step) {
-            return Some(Refusal::Shares);
+        if !self.shares_fit(&split) {
+            return Err(Refusal::Shares);
         }
-        None
+        Ok(split)
     }
 
-    fn judge_split(&self, step: Split) -> Option<Refusal>
-        ensures first { result ≡ None → step.part1 < 64 }
-        ensures second { result ≡ None → step.part2 < 64 }
-        ensures fitting { result ≡ None → LowestLong (side_of_kind step.kind) (parts_in step) (slots_of self.now.book) None }
-        ensures verdict { (shares : Bool) (long : Option ℕ) → Decides shares (SharesFit (facts_of self.now.board) (side_of_kind step.kind) (parts_in step)) → LowestLong (side_of_kind step.kind) (parts_in step) (slots_of self.now.book) long → result ≡ split_verdict (facts_of self.now.board) step.kind step.whole step.part1 step.part2 shares long }
+    fn may_split(&self, step: Split) -> Result<SplitInRange, Refusal>
+        ensures { (shares : Bool) (long : Option ℕ) → Decides shares (SharesFit (facts_of self.now.board) (side_of_kind step.kind) (parts_in step)) → LowestLong (side_of_kind step.kind) (parts_in step) (slots_of self.now.book) long → Checked (split_verdict (facts_of self.now.board) step.kind step.whole step.part1 step.part2 shares long) (FittingSplit step (slots_of self.now.book)) result }
     {
-        match self.judge_parting(step) {
-            Some(refusal) => Some(refusal),
-            None => match long_slot(&self.book, step) {
-                Some(slot) => Some(Refusal::TooLong(slot)),
-                None => None,
-            },
+        let split = self.may_part(step)?;
+        match long_slot(&self.book, &split) {
+            Some(slot) => Err(Refusal::TooLong(slot)),
+            None => Ok(split),
         }
     }
 
@@ -166,13 +98,8 @@ impl Draft {
         ensures stepped { Stepped (SplitStep step) (state_of self.old) result (state_of self.new) }
         ensures refused { Unmoved result self.old self.new }
     {
-        match self.judge_split(step) {
-            Some(refusal) => Err(refusal),
-            None => {
-                split_board(&mut self.board, step);
-                split_book(&mut self.book, step);
-                Ok(())
-            }
-        }
+        let split = self.may_split(step)?;
+        self.regroup(&split);
+        Ok(())
     }
 }

@@ -12,6 +12,7 @@ impl Draft {
         ensures stepped { Stepped step.entry (state_of self.old) result (state_of self.new) }
         ensures refused { Unmoved result self.old self.new }
     {
+        // A match and no closures: steps are asked for as an enum, and their number is closed.
         match step {
             Step::Add(entity) => self.add(entity),
             Step::Remove(entity) => self.remove(entity),

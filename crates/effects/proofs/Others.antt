@@ -5,7 +5,7 @@ use Rattle.model.specs.declared.side.Side.{Side}
 use Rattle.drafts.specs.Sided.{Sided, sided, with_side}
 use Rattle.drafts.specs.Joining.{joined_side}
 use Rattle.drafts.specs.Splitting.{parted_side}
-use Rattle.drafts.proofs.SideFacts.{at_other}
+use Rattle.drafts.specs.SideFacts.{at_other}
 use Rattle.effects.specs.Left.{OnlySide, JoinLeaves, SplitLeaves}
 use Rattle.effects.proofs.OneSide.{each_side, actors_left}
 

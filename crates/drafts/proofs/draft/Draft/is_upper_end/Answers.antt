@@ -1,12 +1,12 @@
-use Rattle.std.proofs.Common.{◌≡◌, ℕ, eqb, sym, ap, ◌∙◌}
-use Rattle.std.proofs.lemmas.Bool.{not-true, not_from_false, eqb-false, ne_eqb, both_ways}
+use Rattle.std.proofs.Common.{sym, ◌∙◌, ⊎_elim}
+use Rattle.std.proofs.lemmas.Bool.{not-true, not_from_false, both_ways, cases_Bool}
 use Rattle.bits.specs.Bit.{bit}
-use Rattle.bits.proofs.Laws.{bit-some, bit-none}
+use Rattle.bits.proofs.Laws.{some_in}
 use Rattle.drafts.proofs.draft.Draft.is_upper_end.Goals as goal
 
 pub returns : goal.returns
 returns c =
     let w = c.row.result.word in (
-      λ h. let s = bit-some w (eqb-false w 0 (not-true (eqb w 0) h)) in (s.0, sym (c.row.ensures.value s.0) ∙ s.1),
-      λ p. not_from_false (eqb w 0) (ne_eqb w 0 (λ (e : w ≡ 0). both_ways (bit w p.0) (ap (λ (v : ℕ). bit v p.0) e ∙ bit-none p.0) (c.row.ensures.value p.0 ∙ p.1))),
+      λ h. let s = some_in w (λ none. both_ways c.is_empty.result (not-true c.is_empty.result h) (c.is_empty.ensures.1 none)) in (s.0, sym (c.row.ensures s.0) ∙ s.1),
+      λ p. not_from_false c.is_empty.result (⊎_elim (λ e. absurd (both_ways (bit w p.0) (c.is_empty.ensures.0 e p.0) (c.row.ensures p.0 ∙ p.1))) (λ e. e) (cases_Bool c.is_empty.result)),
     )
