@@ -3,8 +3,12 @@ use Rattle.std.proofs.Common.{◌≡◌, ℕ, ◌^◌, ◌<◌, ◌≤◌, Bool,
 use Rattle.std.proofs.lemmas.Bool.{and_right, eq-eqb, ne_eqb}
 use Rattle.bits.specs.Bit.{bit}
 use Rattle.bits.specs.Total.{tally}
-use Rattle.bits.proofs.Totals.{tally_less}
+use Rattle.bits.proofs.Totals.{tally_less, tally-most}
 use Rattle.bits.proofs.Laws.{bit_below}
+
+-- at most 64
+pub most_heads : (w : ℕ) → tally (bit w) 64 ≤ 64
+most_heads w = tally-most (bit w) 64
 
 -- with somebody in it, at least one
 pub some-heads : (w a : ℕ) → w < 2 ^ 64 → bit w a ≡ true → 1 ≤ tally (bit w) 64

@@ -1,2 +1,2 @@
-mod Heads
+pub mod Heads
 mod Told

@@ -8,13 +8,13 @@ use bits::Bits;
 #[derive(Clone, Copy, PartialEq, Eq, Debug)]
 pub enum Effect {
     /// The same people.
-    Same,
+    Same = 0,
     /// Some of the old people and nobody new.
-    Reduction,
+    Reduction = 1,
     /// All of the old people and somebody new.
-    Expansion,
+    Expansion = 2,
     /// Somebody new, and not all of the old people.
-    Neither,
+    Neither = 3,
 }
 
 impl Effect {
@@ -22,12 +22,7 @@ impl Effect {
     pub fn number(self) -> u8
         ensures { result ≡ effect_number self }
     {
-        match self {
-            Effect::Same => 0,
-            Effect::Reduction => 1,
-            Effect::Expansion => 2,
-            Effect::Neither => 3,
-        }
+        self as u8
     }
 
     /// The effect of the new people in the place of the old ones.

@@ -1,6 +1,5 @@
-ghost use Rattle.previews.specs.Previews.{Previewed, head_count};
+ghost use Rattle.previews.specs.Previews.{Previewed};
 ghost use Rattle.rules.specs.Rules.{rule_tree};
-ghost use Rattle.std.specs.Prelude.{◌≡◌, pos, ◌≤ℤ◌};
 
 use crate::effect::Effect;
 use answers::everyone::who;
@@ -16,16 +15,8 @@ pub struct Preview {
     pub difference: i8,
 }
 
-// How many are in the set.
-fn heads(set: Bits) -> i8
-    ensures value { result ≡ pos (head_count set) }
-    ensures some { pos 0 ≤ℤ result }
-    ensures most { result ≤ℤ pos 64 }
-{
-    set.count() as i8
-}
-
 /// Previews a rule in a new model against a rule in the old one.
+#[tactic(auto, using(crate::proofs::Heads::most_heads))]
 pub fn compare<N: Reading, O: Reading>(
     new: &N,
     new_rule: &Rule,
@@ -39,6 +30,6 @@ pub fn compare<N: Reading, O: Reading>(
     Preview {
         set,
         effect: Effect::between(set, released),
-        difference: heads(set) - heads(released),
+        difference: set.count() as i8 - released.count() as i8,
     }
 }

@@ -1,17 +1,18 @@
 -- A model that fits is written whole, and the order of writing is that of the fact words.
-use Rattle.std.proofs.Common.{◌≡◌, ℕ, zero, suc, ◌<◌, ◌≤◌, Bool, true, false, ◌&&◌, ◌||◌, ltb, sym, refl, ap, ◌∙◌, ⊎_elim, arith}
-use Rattle.std.proofs.lemmas.Bool.{cases_Bool, cond-true, cond_both, and_from, or_left, or_right, lt-ltb, both_ways}
+use Rattle.std.proofs.Common.{◌≡◌, ℕ, zero, suc, ◌<◌, ◌≤◌, Bool, true, false, ◌&&◌, refl, ⊎_elim, arith}
+use Rattle.std.proofs.lemmas.Bool.Decides.{nat_tests}
+use Rattle.std.specs.Cmp.{both_ways}
 use Rattle.bits.specs.Total.{total, unit}
 use Rattle.model.specs.Facts.{Facts, OnlyPossible, possible, placed}
-use Rattle.model.specs.Sizes.{row_size, sort_size, size, takes}
+use Rattle.model.specs.Sizes.{row_size, sort_size, size}
 use Rattle.model.proofs.Counting.{size-put}
 use Rattle.model.proofs.Possible.{parts}
-use Rattle.model.proofs.Sets.{placed_here}
-use Rattle.transfer.specs.Contents.{Content, Writing, after_put, after_drop}
+use Rattle.transfer.specs.Contents.{Content, Writing}
 use Rattle.transfer.specs.Exact.{FittingModelIsHeld}
 use Rattle.transfer.specs.Orders.{AscendsByWord, drop_surplus, put_missing, each_fact, written_out}
 use Rattle.transfer.proofs.Turns.{all_kept, all_made}
-use Rattle.transfer.proofs.Writes.{placed-both, at_same, drop_shrinks, put_grows, put_within, put_keeps, dropped_keeps, dropped_possible}
+use Rattle.transfer.specs.Visits.{drop_shrinks, drop_here, put_grows, put_within, put_here}
+use Rattle.transfer.proofs.Writes.{put_keeps, dropped_keeps, dropped_possible}
 
 -- S has no fact that T lacks
 abbrev pub Within : Facts → Facts → Type 0
@@ -23,9 +24,7 @@ total_within f g zero h = omega arith
 total_within f g (suc n) h = omega (arith, total_within f g n h, h n)
 
 unit_within : (a b c : Bool) → (b ≡ true → c ≡ true) → unit (a && b) ≤ unit (a && c)
-unit_within false b c h = omega arith
-unit_within true false c h = omega arith
-unit_within true true c h = omega (arith, ap unit (h refl))
+unit_within a b c h = grind (arith, nat_tests)
 
 -- a smaller set has no more facts
 pub size_within : (S T : Facts) → Within S T → size S ≤ size T
@@ -37,9 +36,8 @@ size_within S T within =
 -- a set within the model that lacks one of its facts is smaller
 pub size_room : (S M : Facts) (s x y : ℕ) → possible s x y ≡ true → Within S M → M s x y ≡ true → S s x y ≡ false → size S < size M
 size_room S M s x y can within has out =
-    let p = size-put S s x y can out in
-    let l = size_within (placed S s x y true) M
-    (λ a b c. placed-both S s x y true a b c (λ (v : Bool). v ≡ true → M a b c ≡ true) (λ here _. at_same M s x y a b c here has) (within a b c)) in
+    let more = size-put S s x y can out in
+    let less = size_within (placed S s x y true) M (unfold placed in λ a b c e. let w = within a b c in grind (arith, nat_tests)) in
     omega arith
 
 module _ (W : Writing) (M : Facts) (C : Content) (only_M : OnlyPossible M) (only_C : OnlyPossible C.facts) (fits : size M ≤ C.capacity) where
@@ -52,12 +50,7 @@ module _ (W : Writing) (M : Facts) (C : Content) (only_M : OnlyPossible M) (only
   nothing_else s x y h =
       let p = parts s x y (dropped_possible W M C only_C s x y h) in
       all_made (λ (D : Content). Unit {0}) (λ (D : Content). D.facts s x y ≡ true → M s x y ≡ true) (drop_surplus W M) s x y
-      (λ t u v D _. tt) (λ t u v D before e. before (drop_shrinks W M t u v D s x y e)) (λ D _. gone D) p.sort p.lower p.upper C tt h
-    where
-      gone : (D : Content) → (drop_surplus W M s x y D).facts s x y ≡ true → M s x y ≡ true
-      gone D =
-          cond_both (M s x y) D (after_drop W s x y D) (λ (E : Content). E.facts s x y ≡ true → M s x y ≡ true) (λ has _. has)
-          (λ _ e. absurd (both_ways _ (placed_here D.facts s x y false) e))
+      (λ t u v D _. tt) (λ t u v D before e. before (drop_shrinks W M t u v D s x y e)) (λ D _. drop_here W M s x y D) p.sort p.lower p.upper C tt h
 
   -- what the puts find: a store within the model, with room for the model
   Ready : Content → Type 0
@@ -76,18 +69,9 @@ module _ (W : Writing) (M : Facts) (C : Content) (only_M : OnlyPossible M) (only
   taken : (s x y : ℕ) (D : Content) → M s x y ≡ true → Ready D → (put_missing W M s x y D).facts s x y ≡ true
   unfolding Ready
   taken s x y D has h =
-      ap (λ (E : Content). E.facts s x y) (cond-true (M s x y) (after_put W s x y D) D has)
-      ∙ ap (λ (S : Facts). S s x y) (cond-true (takes D.facts D.capacity s x y) (placed D.facts s x y true) D.facts room)
-      ∙ placed_here D.facts s x y true
-    where
-      room : takes D.facts D.capacity s x y ≡ true
-      room =
-          and_from (possible s x y) (D.facts s x y || ltb (size D.facts) D.capacity) (only_M s x y has)
-          (⊎_elim
-          (or_left (D.facts s x y) (ltb (size D.facts) D.capacity))
-          (λ out. let less = size_room D.facts M s x y (only_M s x y has) h.0 has out in
-          or_right (D.facts s x y) (ltb (size D.facts) D.capacity) (lt-ltb (size D.facts) D.capacity (omega (arith, h.1))))
-          (cases_Bool (D.facts s x y)))
+      let can = only_M s x y has in
+      let room : D.facts s x y ≡ false → size D.facts < D.capacity = λ out. omega (arith, size_room D.facts M s x y can h.0 has out, h.1) in
+      put_here W M s x y D has (grind (arith, nat_tests))
 
   -- so nothing of the model is missing in the end, and nothing else is there
   everything : Within M (written_out W M C).facts
@@ -101,19 +85,9 @@ module _ (W : Writing) (M : Facts) (C : Content) (only_M : OnlyPossible M) (only
   unfolding Ready dropped
   within_model = (all_kept Ready (put_missing W M) ready_kept dropped ready_first).0
 
-  same-facts : (s x y : ℕ) → (written_out W M C).facts s x y ≡ M s x y
-  same-facts s x y =
-      ⊎_elim
-      (λ e. e ∙ sym (within_model s x y e))
-      (λ e. e ∙ sym (⊎_elim (λ has. absurd (both_ways _ e (everything s x y has))) (λ out. out) (cases_Bool (M s x y))))
-      (cases_Bool ((written_out W M C).facts s x y))
-
 pub fitting_model_is_held : FittingModelIsHeld
-fitting_model_is_held W M C only_M only_C fits = λ i s x y. same-facts W M C only_M only_C fits s x y i
+fitting_model_is_held W M C only_M only_C fits =
+    λ i s x y. both_ways _ _ (within_model W M C only_M only_C fits s x y) (everything W M C only_M only_C fits s x y) i
 
 pub ascends_by_word : AscendsByWord
-ascends_by_word s x y t u v lx ly lu lv before =
-    ⊎_elim
-    (λ (l : s < t). omega arith)
-    (λ e. ⊎_elim (λ (l : x < u). omega (arith, e.0)) (λ f. omega (arith, e.0, f.0, f.1)) e.1)
-    before
+ascends_by_word s x y t u v lx ly lu lv before = grind arith

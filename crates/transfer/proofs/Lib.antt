@@ -1,5 +1,3 @@
-mod Loaded
-mod Found
-mod Turns
+pub mod Turns
 pub mod Writes
 pub mod Fits

@@ -1,21 +1,24 @@
 -- What one turn after another does, in ascending order.
-use Rattle.std.proofs.Common.{◌≡◌, ℕ, zero, suc, ◌+◌, ◌<◌, sym, refl, ap, ◌∙◌, subst, ⊎_elim, not-suc-le-zero, add-one, arith}
-use Rattle.std.proofs.lemmas.Bool.{cases_eq}
+use Rattle.std.proofs.Common.{◌≡◌, ℕ, zero, suc, ◌+◌, ◌<◌, Bool, false, cond, [], ◌∷◌, sym, refl, ap, ◌∙◌, subst, ⊎_elim, not-suc-le-zero, add-one, zero-add, arith}
+use Rattle.std.proofs.lemmas.Bool.{cases_eq, cond_both}
+use Rattle.std.proofs.lemmas.List.{map-id}
+use Rattle.std.proofs.lemmas.List.FromFn.{filter_of_map_range_with_len_more}
+use Rattle.std.proofs.lemmas.List.Sums.{fold-append}
+use Rattle.std.specs.List.{fold, filter, range_with_len}
 use Rattle.transfer.specs.Orders.{ascending, each_upper, each_of_sort, each_fact}
 
-pub no_turns : {A : Type 0} (f : ℕ → A → A) (a : A) → a ≡ ascending f 0 a
+pub no_turns : {A : Type 0} (f : ℕ → A → A) (a : A) → ascending f 0 a ≡ a
 unfolding ascending
 no_turns f a = refl
 
-pub one-more_turn : {A : Type 0} (f : ℕ → A → A) (n : ℕ) (start before after : A) → before ≡ ascending f n start → after ≡ f n before → after ≡ ascending f (n + 1) start
+pub more_turns : {A : Type 0} (f : ℕ → A → A) (n : ℕ) (a : A) → ascending f (n + 1) a ≡ f n (ascending f n a)
 unfolding ascending
-one-more_turn f n start before after p q = rw add-one (q ∙ ap (f n) p)
+more_turns f n a = rw add-one refl
 
-pub turns_done : {A : Type 0} (f : ℕ → A → A) (n m : ℕ) (start after : A) → n ≡ m → after ≡ ascending f n start → after ≡ ascending f m start
-turns_done f n m start after e p = p ∙ ap (λ (k : ℕ). ascending f k start) e
+pub ruleset turns = (no_turns, more_turns)
 
 -- turns that change nothing
-idle : {A : Type 0} (f : ℕ → A → A) (a : A) → ((k : ℕ) → f k a ≡ a) → (n : ℕ) → ascending f n a ≡ a
+pub idle : {A : Type 0} (f : ℕ → A → A) (a : A) → ((k : ℕ) → f k a ≡ a) → (n : ℕ) → ascending f n a ≡ a
 unfolding ascending
 idle f a h zero = refl
 idle f a h (suc n) = ap (f n) (idle f a h n) ∙ h n
@@ -56,9 +59,14 @@ all_made Q P f s x y keeps-Q keeps-P makes ls lx ly =
     (made Q P (each_upper f s) x (upper_kept Q f keeps-Q s) (upper_kept P f keeps-P s)
     (made Q P (f s x) y (keeps-Q s x) (keeps-P s x) makes 64 ly) 64 lx) 7 ls
 
--- b has come from a by turns that keep P; where the turns of x are idle at a b with P, they change nothing
-pub skipped : {A : Type 0} (P : A → Type 0) (f : ℕ → ℕ → ℕ → A → A) (s x : ℕ) (a b : A) → ((t u v : ℕ) (c : A) → P c → P (f t u v c)) → P a
-    → ((y : ℕ) → P b → f s x y b ≡ b) → b ≡ ascending (each_upper f s) x a → each_upper f s x b ≡ b
-skipped P f s x a b keeps first same way =
-    let holds = subst P (sym way) (kept P (each_upper f s) (upper_kept P f keeps s) x a first) in
-    idle (f s x) b (λ y. same y holds) 64
+-- the turns of the numbers that pass a test are those of all numbers, where P is kept and the turns of the others change nothing
+pub kept_turns : {A : Type 0} (P : A → Type 0) (f : ℕ → A → A) (p : ℕ → Bool) → ((k : ℕ) (a : A) → P a → P (f k a)) → ((k : ℕ) (a : A) → p k ≡ false → P a → f k a ≡ a)
+    → (n : ℕ) (a : A) → P a → fold (λ b k. f k b) a (filter p (range_with_len 0 n)) ≡ ascending f n a
+unfolding ascending
+kept_turns P f p keeps same zero a first = refl
+kept_turns P f p keeps same (suc n) a first =
+    let before = kept_turns P f p keeps same n a first in
+    let more = rw add-one at (simp map-id at (filter_of_map_range_with_len_more p (λ k. k) 0 n n (zero-add n))) in
+    ap (fold (λ b k. f k b) a) more ∙ fold-append (λ b k. f k b) a (filter p (range_with_len 0 n)) (cond (p n) (n ∷ []) [])
+    ∙ cond_both (p n) (n ∷ []) [] (λ xs. fold (λ b k. f k b) (fold (λ b k. f k b) a (filter p (range_with_len 0 n))) xs ≡ f n (ascending f n a))
+    (λ _. ap (f n) before) (λ out. before ∙ sym (same n (ascending f n a) out (kept P f keeps n a first)))

@@ -2,5 +2,6 @@
 #![tactic(auto)]
 
 pub mod load;
+mod pass;
 mod rows;
 pub mod write_out;

@@ -1,24 +1,19 @@
-use Rattle.std.proofs.Common.{◌≡◌, ℕ, ◌<◌, ap, ◌∙◌, arith}
-use Rattle.board.proofs.Marks.{only_possible}
-use Rattle.board.specs.Holding.{facts_of}
-use Rattle.transfer.proofs.Loaded.{sorts-below, no_sorts, sort_more, sorts_all}
+use Rattle.std.proofs.Common.{◌≡◌, ℕ, true, sym, ◌∙◌, arith}
+use Rattle.std.specs.Cmp.{both_ways}
+use Rattle.board.specs.OnlyPossible.{only_possible}
+use Rattle.model.specs.Facts.{Facts, OnlyPossible, possible}
+use Rattle.model.proofs.Possible.{parts}
 use Rattle.transfer.proofs.load.load.Goals as goal
 
-pub loop-sort-init : goal.loop-sort-init
-loop-sort-init g c = (no_sorts _ _, λ l. absurd (omega arith))
+-- sets of possible facts are the same if they agree on every possible fact
+same_facts : (S T : Facts) → OnlyPossible S → OnlyPossible T → ((s x y : ℕ) → possible s x y ≡ true → S s x y ≡ T s x y) → S ≡ T
+same_facts S T only_S only_T agree =
+    λ i s x y. both_ways (S s x y) (T s x y) (λ e. sym (agree s x y (only_S s x y e)) ∙ e) (λ e. agree s x y (only_T s x y e) ∙ e) i
 
 pub loop-sort-preserved : goal.loop-sort-preserved
-loop-sort-preserved g c = (
-  sort_more (g.R.Reading.held c.args.from.now) (facts_of c.args.board.now) (facts_of c.loop-sort.board) (facts_of c.load_sort.new.board)
-      c.loop-sort.sort c.loop-sort.invariant.0 c.load_sort.ensures.value,
-  λ _. c.load_sort.ensures.possible,
-)
+loop-sort-preserved g c = λ s x y can below. grind (arith, c.loop-y.invariant.earlier s x y can, c.loop-y.invariant.here x y, c.row_count-y-end.ensures.all x y)
 
 pub returns : goal.returns
 returns g c =
-    let G = g.R.Reading.held c.args.from.now in
-    let B = facts_of c.args.board.now in
-    let some : 0 < c.loop-sort.sort = omega arith in
-    let end : c.loop-sort.sort ≡ 7 = omega arith in
-    sorts_all G B (facts_of c.loop-sort.board) (c.loop-sort.invariant.1 some) (only_possible c.args.board.now.rows)
-    (λ s x y. c.loop-sort.invariant.0 s x y ∙ ap (λ (n : ℕ). sorts-below G B n s x y) end)
+    same_facts _ _ (only_possible c.loop-sort.board.rows) (g.met.R.Reading.only_possible c.args.from.now)
+    (λ s x y can. let sort = parts s x y can in c.loop-sort.invariant s x y can (omega arith))

@@ -1,9 +1,0 @@
-use Rattle.std.proofs.Common.{◌≡◌}
-use Rattle.transfer.specs.Contents.{content, writing}
-use Rattle.transfer.specs.Orders.{ascending, put_missing}
-use Rattle.transfer.proofs.write_out.put_upper.Given as goal
-
-abbrev pub invariant-loop-y : goal.invariant-loop-y
-invariant-loop-y g l =
-    content g.S.Reading g.S.Store l.store
-    ≡ ascending (put_missing (writing g.S.Store) (g.R.Reading.held l.model) l.sort l.x) l.y (content g.S.Reading g.S.Store l.initial.store)
