@@ -1,7 +1,10 @@
 -- Questions: the set for a slot, yes or no for a slot and an actor, and a preview. None of them changes anything.
 use Rattle.std.specs.Prelude.{◌≡◌, ℕ, Bool, not, ◌&&◌, ◌||◌, Some, None, Ok, Err, Decides, Option, Result, nat_lt}
+use Rattle.std.specs.Borrow.{Bor}
 use Rattle.bits.specs.declared.Bits.{Bits}
+use Rattle.rules.specs.Rules.{rule_tree}
 use Rattle.rules.specs.Trees.{Tree}
+use Rattle.rules.specs.declared.rule.Rule.{Rule}
 use Rattle.answers.specs.Qualify.{Qualifies}
 use Rattle.previews.specs.Previews.{PeopleOf, Previewed}
 use Rattle.previews.specs.declared.preview.Preview.{Preview}
@@ -13,6 +16,11 @@ use Rattle.engine.specs.declared.refusal.Refusal.TheVariants.{Ticket, Range, Emp
 use Rattle.engine.specs.declared.ticket.OpenTicket.{OpenTicket}
 use Rattle.engine.specs.Answered.{refused_if}
 use Rattle.engine.specs.Moments.{Moment, open_draft}
+
+-- The rule in a slot, or that the slot is empty.
+abbrev pub RuleAt : Slots → (slot : ℕ) → Result (Bor Rule) Refusal → Type 0
+RuleAt B slot (Ok r) = B slot ≡ Some (rule_tree r.now)
+RuleAt B slot (Err w) = (B slot ≡ None) × (w ≡ Empty slot)
 
 -- The slot and the actor asked about must be in range, then the slot must be filled.
 abbrev pub question_verdict : Slots → (slot : ℕ) → (in_range : Bool) → Option Refusal

@@ -7,3 +7,4 @@ pub mod Checking
 pub mod Releasing
 pub mod Asking
 pub mod Views
+pub mod Lending

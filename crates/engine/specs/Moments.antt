@@ -3,6 +3,8 @@ use Rattle.std.specs.Prelude.{ℕ, Bool, cond, ◌&&◌, Some, None, Option, ◌
 use Rattle.transfer.specs.Contents.{Content}
 use Rattle.drafts.specs.Slots.{Slots}
 use Rattle.drafts.specs.Steps.{State}
+use Rattle.engine.specs.declared.change.Stage.{Stage}
+use Rattle.engine.specs.declared.change.Stage.TheVariants.{Open as AtOpen, Cleared as AtCleared}
 use Rattle.engine.specs.declared.ticket.OpenTicket.{OpenTicket}
 use Rattle.engine.specs.declared.ticket.ClearedTicket.{ClearedTicket}
 use Rattle.engine.specs.declared.ticket.Ticket.{Ticket}
@@ -46,6 +48,14 @@ abbrev pub draft_if_cleared : Change → Option State
 draft_if_cleared idle = None
 draft_if_cleared (opened D) = None
 draft_if_cleared (cleared D) = Some D
+
+abbrev pub draft_if : Stage → Change → Option State
+draft_if AtOpen c = draft_if_open c
+draft_if AtCleared c = draft_if_cleared c
+
+-- The draft of the change at this stage, if its ticket has these numbers.
+abbrev pub draft_at : Moment → Stage → (engine change : ℕ) → Option State
+draft_at m s e c = cond (names m e c) (draft_if s m.change) None
 
 -- The draft of the open change, if the ticket is its ticket.
 abbrev pub open_draft : Moment → OpenTicket → Option State

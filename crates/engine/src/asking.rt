@@ -1,8 +1,10 @@
-ghost use Rattle.engine.specs.Asking.{Foretells, TellsSet, TellsWhether};
+ghost use Rattle.drafts.specs.Slots.{slots_of};
+ghost use Rattle.engine.specs.Asking.{Foretells, RuleAt, TellsSet, TellsWhether};
 ghost use Rattle.engine.specs.Moments.{released};
 ghost use Rattle.engine.specs.Views.{moment};
 ghost use Rattle.std.specs.Prelude.{◌≡◌};
 
+use crate::change::Stage;
 use crate::engine::Engine;
 use crate::refusal::Refusal;
 use crate::ticket::OpenTicket;
@@ -12,6 +14,14 @@ use bits::Bits;
 use model::store::Store;
 use previews::preview::{Preview, compare};
 use rules::book::Book;
+use rules::rule::Rule;
+
+// The rule in the slot asked about.
+fn rule_at(book: &Book, slot: u8) -> Result<&Rule, Refusal>
+    ensures { RuleAt (slots_of book.now) slot result }
+{
+    book.rule(slot).ok_or(Refusal::Empty(slot))
+}
 
 impl<S: Store> Engine<S> {
     /// The store with the released facts, to read.
@@ -35,10 +45,7 @@ impl<S: Store> Engine<S> {
         if slot >= 32 {
             return Err(Refusal::Range(slot));
         }
-        match self.book.rule(slot) {
-            Some(rule) => Ok(who(&self.store, rule)),
-            None => Err(Refusal::Empty(slot)),
-        }
+        Ok(who(&self.store, rule_at(&self.book, slot)?))
     }
 
     /// Whether the actor qualifies for the slot's released rule in the released model.
@@ -48,10 +55,7 @@ impl<S: Store> Engine<S> {
         if slot >= 32 || actor >= 64 {
             return Err(Refusal::Range(slot));
         }
-        match self.book.rule(slot) {
-            Some(rule) => Ok(may(&self.store, rule, actor)),
-            None => Err(Refusal::Empty(slot)),
-        }
+        Ok(may(&self.store, rule_at(&self.book, slot)?, actor))
     }
 
     /// The people that the slot would have if the open change were released, against those that it has.
@@ -61,12 +65,11 @@ impl<S: Store> Engine<S> {
         if slot >= 32 {
             return Err(Refusal::Range(slot));
         }
-        if !self.is_open(ticket) {
-            return Err(Refusal::Ticket(slot));
-        }
-        match (self.draft.book.rule(slot), self.book.rule(slot)) {
-            (Some(new), Some(old)) => Ok(compare(&self.draft.board, new, &self.store, old)),
-            _ => Err(Refusal::Empty(slot)),
-        }
+        let draft = self
+            .draft_at(Stage::Open, ticket.numbers())
+            .ok_or(Refusal::Ticket(slot))?;
+        let new = rule_at(&draft.book, slot)?;
+        let old = rule_at(&self.book, slot)?;
+        Ok(compare(&draft.board, new, &self.store, old))
     }
 }

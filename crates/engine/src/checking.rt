@@ -1,72 +1,57 @@
-ghost use Rattle.std.specs.Prelude.{◌≡◌, ◌<◌, MatchOption};
-ghost use Rattle.answers.specs.Validity.{Valid};
 ghost use Rattle.drafts.specs.States.{state_of};
-ghost use Rattle.engine.specs.Checking.{AllValid, Checks, Finds, InvalidAt, ValidAt, ValidBelow};
-ghost use Rattle.engine.specs.Views.{SameIfRefused, Untouched, moment};
+ghost use Rattle.engine.specs.Checking.{Checks, Finds, InvalidAt, ValidAt};
+ghost use Rattle.engine.specs.Views.{Kept, moment};
+ghost use Rattle.std.specs.Prelude.{MatchResult};
+ghost use Rattle.std.specs.Result.{result_err};
 
-use crate::engine::{Engine, Phase};
+use crate::change::Stage;
+use crate::engine::Engine;
 use crate::refusal::{Refusal, Unfit};
 use crate::ticket::{ClearedTicket, OpenTicket};
 use answers::validity::{Invalid, validity};
 use drafts::draft::Draft;
 use model::store::Store;
 
-// Why the rule in the slot is not valid. An empty slot has nothing to object to.
-fn invalid_at(draft: &Draft, slot: u8) -> Option<Invalid>
-    ensures { MatchOption result (ValidAt (state_of draft.now) slot) (InvalidAt (state_of draft.now) slot) }
+// Whether the rule in the slot is valid, or why not. An empty slot has nothing to object to.
+fn check_slot(draft: &Draft, slot: u8) -> Result<(), Invalid>
+    ensures { MatchResult result (λ _. ValidAt (state_of draft.now) slot) (InvalidAt (state_of draft.now) slot) }
 {
-    match draft.book.rule(slot) {
-        Some(rule) => match validity(&draft.board, rule) {
-            Ok(_) => None,
-            Err(why) => Some(why),
-        },
-        None => None,
+    if let Some(rule) = draft.book.rule(slot) {
+        validity(&draft.board, rule)?;
     }
+    Ok(())
 }
 
-// The first slot, from 0 up, whose rule is not valid, and why.
-fn first_invalid(draft: &Draft) -> Option<(u8, Invalid)>
-    ensures { MatchOption result (AllValid (state_of draft.now)) (λ found. ValidBelow (state_of draft.now) found.0 × InvalidAt (state_of draft.now) found.0 found.1) }
+// Whether the draft can be released to a store of that capacity, or what keeps it from that.
+fn check_draft(draft: &Draft, capacity: usize) -> Result<(), Unfit>
+    ensures { Finds capacity (state_of draft.now) (result_err result) }
 {
+    // By `if let`: with `map_err(..)?` it stayed open what the refusal says of the slot.
     for slot in 0..32u8 {
-        if let Some(why) = invalid_at(draft, slot) {
-            return Some((slot, why));
+        if let Err(why) = check_slot(draft, slot) {
+            return Err(Unfit::Rule(slot, why));
         }
     }
-    None
-}
-
-// What keeps the draft from being released to a store of that capacity.
-fn unfit(draft: &Draft, capacity: usize) -> Option<Unfit>
-    ensures { Finds capacity (state_of draft.now) result }
-{
-    match first_invalid(draft) {
-        Some((slot, why)) => Some(Unfit::Rule(slot, why)),
-        None => {
-            if draft.board.count() > capacity {
-                Some(Unfit::TooMany)
-            } else {
-                None
-            }
-        }
+    if draft.board.count() > capacity {
+        return Err(Unfit::TooMany);
     }
+    Ok(())
 }
 
 impl<S: Store> Engine<S> {
     /// Clears the open change if every rule of its draft is valid and the store can hold its model; otherwise the first fault is told.
     pub fn check(&mut self, ticket: OpenTicket) -> Result<ClearedTicket, (Refusal, OpenTicket)>
         ensures checks { Checks (moment S.Reading S.Store.own self.old) ticket result (moment S.Reading S.Store.own self.new) }
-        ensures untouched { Untouched self.old self.new }
-        ensures refused { SameIfRefused result self.old self.new }
+        ensures kept { Kept result self.old self.new }
     {
-        if !self.is_open(&ticket) {
+        let capacity = self.store.capacity();
+        let Some(change) = self.change_at(Stage::Open, ticket.numbers()) else {
             return Err((Refusal::Ticket(255), ticket));
+        };
+        if let Err(unfit) = check_draft(&change.draft, capacity) {
+            return Err((unfit.into(), ticket));
         }
-        if let Some(unfit) = unfit(&self.draft, self.store.capacity()) {
-            return Err((Refusal::Unfit(unfit), ticket));
-        }
-        let OpenTicket { engine, change } = ticket;
-        self.phase = Phase::Cleared;
-        Ok(ClearedTicket { engine, change })
+        change.stage = Stage::Cleared;
+        Ok(ticket.cleared())
     }
 }

@@ -1,14 +1,6 @@
-use drafts::draft::Draft;
+use crate::change::Change;
 use model::store::Store;
 use rules::book::Book;
-
-/// How far the change in preparation has come.
-#[derive(Clone, Copy, PartialEq, Eq, Debug)]
-pub enum Phase {
-    Idle,
-    Open,
-    Cleared,
-}
 
 /// A released model in its store, a released book, and at most one change in preparation.
 pub struct Engine<S: Store> {
@@ -17,7 +9,5 @@ pub struct Engine<S: Store> {
     pub(crate) number: u16,
     // how many changes were opened
     pub(crate) changes: u32,
-    pub(crate) phase: Phase,
-    // what an idle engine has here means nothing
-    pub(crate) draft: Draft,
+    pub(crate) change: Option<Change>,
 }

@@ -2,6 +2,7 @@
 #![tactic(auto)]
 
 mod asking;
+pub mod change;
 mod checking;
 pub mod engine;
 mod opening;

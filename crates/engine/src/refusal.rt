@@ -1,4 +1,5 @@
 ghost use Rattle.engine.specs.Refusals.{in_layer_3, refusal_numbers, unfit_numbers};
+ghost use Rattle.engine.specs.declared.refusal.Refusal.TheVariants.{Step as StepRefused, Unfit as IsUnfit};
 ghost use Rattle.std.specs.Prelude.{◌≡◌};
 
 use answers::validity::Invalid;
@@ -33,6 +34,22 @@ pub enum Refusal {
     Unfit(Unfit),
 }
 
+impl From<StepRefusal> for Refusal {
+    ghost from_gives = { λ why gives. gives ≡ StepRefused why };
+
+    fn from(why: StepRefusal) -> Refusal {
+        Refusal::Step(why)
+    }
+}
+
+impl From<Unfit> for Refusal {
+    ghost from_gives = { λ why gives. gives ≡ IsUnfit why };
+
+    fn from(why: Unfit) -> Refusal {
+        Refusal::Unfit(why)
+    }
+}
+
 // The numbers of a refusal of a ticket, an opening, a check or a question.
 fn in_layer_3(number: u8, slot: u8, node: u8) -> Numbers
     ensures { result ≡ in_layer_3 number slot node }
@@ -57,6 +74,7 @@ impl Unfit {
     }
 }
 
+// The numbers are a table that callers know: they follow from no order of the variants.
 impl Refusal {
     /// The four numbers of the refusal.
     pub fn numbers(self) -> Numbers

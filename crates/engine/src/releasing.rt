@@ -2,9 +2,10 @@ ghost use Rattle.engine.specs.Releasing.{Releases};
 ghost use Rattle.engine.specs.Views.{SameIfRefused, moment};
 ghost use Rattle.transfer.specs.Contents.{writing};
 
-use crate::engine::{Engine, Phase};
+use crate::change::Stage;
+use crate::engine::Engine;
 use crate::refusal::Refusal;
-use crate::ticket::ClearedTicket;
+use crate::ticket::{ClearedTicket, Ticket};
 use model::store::Store;
 use transfer::write_out::write_out;
 
@@ -14,16 +15,13 @@ impl<S: Store> Engine<S> {
         ensures releases { Releases (writing S.Store.own) (moment S.Reading S.Store.own self.old) ticket result (moment S.Reading S.Store.own self.new) }
         ensures refused { SameIfRefused result self.old self.new }
     {
-        if !self.is_cleared(&ticket) {
+        let Some(&draft) = self.draft_at(Stage::Cleared, ticket.numbers()) else {
             return Err((Refusal::Ticket(255), ticket));
-        }
-        let ClearedTicket {
-            engine: _,
-            change: _,
-        } = ticket;
-        write_out(&mut self.store, &self.draft.board);
-        self.book = self.draft.book;
-        self.phase = Phase::Idle;
+        };
+        Ticket::Cleared(ticket).spend();
+        write_out(&mut self.store, &draft.board);
+        self.book = draft.book;
+        self.change = None;
         Ok(())
     }
 }

@@ -1,6 +1,7 @@
 ghost use Rattle.engine.specs.Stepping.{Steps};
-ghost use Rattle.engine.specs.Views.{SameIfRefused, Untouched, moment};
+ghost use Rattle.engine.specs.Views.{Kept, moment};
 
+use crate::change::Stage;
 use crate::engine::Engine;
 use crate::refusal::Refusal;
 use crate::ticket::OpenTicket;
@@ -11,18 +12,13 @@ impl<S: Store> Engine<S> {
     /// Edits the draft of the open change, or says why not and leaves it as it was.
     pub fn step(&mut self, ticket: &OpenTicket, step: Step) -> Result<(), Refusal>
         ensures steps { Steps (moment S.Reading S.Store.own self.old) ticket.now step.entry result (moment S.Reading S.Store.own self.new) }
-        ensures untouched { Untouched self.old self.new }
-        ensures refused { SameIfRefused result self.old self.new }
+        ensures kept { Kept result self.old self.new }
     {
-        if let Some(refusal) = step.input_refusal() {
-            return Err(Refusal::Step(refusal));
-        }
-        if !self.is_open(ticket) {
-            return Err(Refusal::Ticket(step.slot()));
-        }
-        match self.draft.step(step) {
-            Ok(_) => Ok(()),
-            Err(refusal) => Err(Refusal::Step(refusal)),
-        }
+        step.check_input()?;
+        let change = self
+            .change_at(Stage::Open, ticket.numbers())
+            .ok_or(Refusal::Ticket(step.slot()))?;
+        change.draft.step(step)?;
+        Ok(())
     }
 }

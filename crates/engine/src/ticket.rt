@@ -1,4 +1,11 @@
+ghost use Rattle.engine.specs.Checking.{cleared_ticket};
+ghost use Rattle.engine.specs.Opening.{open_ticket};
+ghost use Rattle.engine.specs.Moments.{Moment, draft_at, draft_of};
 ghost use Rattle.std.specs.Prelude.{◌≡◌};
+
+use crate::change::Stage;
+
+// Two types, each with its own numbers: calls are asked for in this form, in which a ticket's type says how far its change has come.
 
 /// The ticket of an open change: the engine's number and the change's. It cannot be copied or let go; checking and withdrawing take it.
 pub struct OpenTicket {
@@ -26,6 +33,14 @@ impl OpenTicket {
     {
         (self.engine, self.change)
     }
+
+    // The ticket once the change is cleared.
+    pub(crate) fn cleared(self) -> ClearedTicket
+        ensures { result ≡ cleared_ticket self.engine self.change }
+    {
+        let OpenTicket { engine, change } = self;
+        ClearedTicket { engine, change }
+    }
 }
 
 impl ClearedTicket {
@@ -36,5 +51,25 @@ impl ClearedTicket {
     {
         let ClearedTicket { engine, change } = self;
         (*engine, *change)
+    }
+
+    // The ticket once the change is open again.
+    pub(crate) fn opened(self) -> OpenTicket
+        ensures { result ≡ open_ticket self.engine self.change }
+    {
+        let ClearedTicket { engine, change } = self;
+        OpenTicket { engine, change }
+    }
+}
+
+impl Ticket {
+    // Ends the ticket: what is left are the stage of its change, and its numbers.
+    pub(crate) fn spend(self) -> (Stage, (u16, u32))
+        ensures { (m : Moment) → draft_of m self ≡ draft_at m result.0 result.1.0 result.1.1 }
+    {
+        match self {
+            Ticket::Open(OpenTicket { engine, change }) => (Stage::Open, (engine, change)),
+            Ticket::Cleared(ClearedTicket { engine, change }) => (Stage::Cleared, (engine, change)),
+        }
     }
 }

@@ -1,5 +1,5 @@
 -- Slots that are alike.
-use Rattle.std.proofs.Common.{◌≡◌, ℕ, Some, None, Option, refl, arith}
+use Rattle.std.proofs.Common.{◌≡◌, Some, None, Option, refl}
 use Rattle.rules.specs.Trees.{Tree}
 use Rattle.drafts.specs.Slots.{edited}
 use Rattle.law.specs.People.{Alike}
@@ -25,5 +25,5 @@ alike_edited P edit (Some t) each = each t refl
 
 -- the rule in an edited slot is an edited rule
 pub edited_from : (edit : Tree → Tree) (o : Option Tree) (u : Tree) → edited edit o ≡ Some u → (t : Tree) × (o ≡ Some t) × (edit t ≡ u)
-edited_from edit None u e = let z : ◌≡◌ {A = ℕ} 0 1 = cc in absurd (omega arith)
+edited_from edit None u e = absurd cc
 edited_from edit (Some t) u e = (t, refl, cc)

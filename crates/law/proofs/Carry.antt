@@ -81,8 +81,8 @@ join_firm j S v w = record {
 
 -- ── the people of one step ──
 
-split-same : (d : Split) (S : State) → Stepped (Made.Split d) S (Ok tt) (split_made d S) → Firm S → SamePeople S (split_made d S)
-split-same d S v w slot =
+split_same : (d : Split) (S : State) → Stepped (Made.Split d) S (Ok tt) (split_made d S) → Firm S → SamePeople S (split_made d S)
+split_same d S v w slot =
     alike_edited _ (parted_rule (side_of_kind d.kind) (parts_in d)) (S.slots slot)
     (λ t e. split_keeps_answers S.facts (side_of_kind d.kind) (parts_in d) w.sound.ends (w.sound.circles (side_of_kind d.kind)) (accepted_splits d S (split_made d S) v).fits t (w.names slot t e))
 
@@ -139,7 +139,7 @@ splits_carry R E (stepped {D} (Made.Split d) p k v) w =
     let e = split_leaves d D E v in
     let v' = subst (Stepped (Made.Split d) D (Ok tt)) e v in
     subst (λ (S : State). Firm S × SamePeople R S) (sym e)
-    (split_firm d D v' before.0, same_then R D (split_made d D) before.1 (split-same d D v' before.0))
+    (split_firm d D v' before.0, same_then R D (split_made d D) before.1 (split_same d D v' before.0))
 splits_carry R E (stepped {D} (Made.Add x) p k v) w = absurd k
 splits_carry R E (stepped {D} (Made.Remove x) p k v) w = absurd k
 splits_carry R E (stepped {D} (Made.Link x) p k v) w = absurd k

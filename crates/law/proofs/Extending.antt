@@ -41,9 +41,9 @@ after {A} f n x k h = ap (λ (b : Bool). cond {A = A} b (f k) x) (le-ltb k n h)
 
 module _ {W : Writing} {start : Scene} {orders : List Order} {room : List Answer} where
   -- One more order is obeyed, and its answer told.
-  pub one-more-order : {n : ℕ} {s : Scene} {answers : List Answer} → SoFar W start orders room n s answers → n < length answers
+  pub one_more_order : {n : ℕ} {s : Scene} {answers : List Answer} → SoFar W start orders room n s answers → n < length answers
       → (a : Answer) (t : Scene) → Obeys W (order_at orders n) s a t → SoFar W start orders room (n + 1) t (set answers n a)
-  one-more-order {n} {s} {answers} so fits a t obeys =
+  one_more_order {n} {s} {answers} so fits a t obeys =
       let was = so.run.scene in
       let said = so.run.answer in
       let scenes = followed was (n + 1) t in

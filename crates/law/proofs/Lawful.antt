@@ -1,9 +1,8 @@
 -- Every run of a new engine keeps the law.
-use Rattle.std.proofs.Common.{◌≡◌, ℕ, zero, suc, ◌+◌, ◌-◌, ◌<◌, ◌≤◌, false, List, Some, None, Option, sym, refl, ◌∙◌, subst, ⊎_elim, add-one, arith}
+use Rattle.std.proofs.Common.{◌≡◌, ℕ, zero, suc, ◌+◌, ◌-◌, ◌<◌, ◌≤◌, false, List, None, sym, refl, ◌∙◌, subst, ⊎_elim, add-one, arith}
 use Rattle.std.proofs.lemmas.Bool.{false≢true}
 use Rattle.model.specs.Chains.{Chain, one, more}
 use Rattle.model.specs.Facts.{nothing}
-use Rattle.rules.specs.Trees.{Tree}
 use Rattle.transfer.specs.Contents.{Writing}
 use Rattle.drafts.specs.Steps.{State}
 use Rattle.drafts.specs.declared.step.Step.{Step}
@@ -20,7 +19,7 @@ use Rattle.law.specs.Runs.{Run}
 use Rattle.law.specs.declared.order.Order.{Order}
 use Rattle.law.specs.declared.order.Answer.TheVariants as A
 use Rattle.law.proofs.Carry.{widened, splits_carry_people, joins_carry_people, same_self, same_then, lost_self, lost_then}
-use Rattle.law.proofs.Told.{set-told_once, whether_told_once}
+use Rattle.law.proofs.Told.{set_told_once, whether_told_once}
 use Rattle.law.proofs.Turns.{Turn, turn}
 use Rattle.law.proofs.Upright.{Upright, InOrder}
 
@@ -36,8 +35,8 @@ no_chain : {x y : ℕ} → Chain (λ a b. false) x y → ⊥
 no_chain (one p) = false≢true p
 no_chain (more p q) = false≢true p
 
-nothing-sound : Sound nothing
-nothing-sound = record {
+nothing_sound : Sound nothing
+nothing_sound = record {
   ends = record {
     actor = λ k a y h. absurd (false≢true h);
     group = λ k a y h. absurd (false≢true h);
@@ -49,8 +48,8 @@ nothing-sound = record {
 
 fresh_upright : (Kind : Step → Type 0) (m : Moment) → Fresh m → Upright Kind m
 fresh_upright Kind m f = record {
-  sound = subst Sound (sym f.facts) nothing-sound;
-  valid = λ slot t e. let z : ◌≡◌ {A = Option Tree} None (Some t) = sym (f.book slot) ∙ e in let y : ◌≡◌ {A = ℕ} 0 1 = cc in absurd (omega arith);
+  sound = subst Sound (sym f.facts) nothing_sound;
+  valid = λ slot t e. absurd (cc (f.book slot));
   change = subst (InOrder Kind m) (sym f.change) tt;
 }
 
@@ -115,7 +114,7 @@ module _ {W : Writing} {start : Scene} {orders : List Order} {n : ℕ} (run : Ru
         (λ k a b r p w. joins_carry_people (released (at run k)) (released (at run (k + 1)))
         (widened (Holds run k) IsSplitOrJoin (only k a b r) (released (at run k)) (released (at run (k + 1))) p) w);
     sets_stay = λ i j le l none slot r q at_i at_j.
-        set-told_once (released (at run i)) slot r q at_i (subst (λ (S : State). TellsSet S slot q) (unmoved i j le l none) at_j);
+        set_told_once (released (at run i)) slot r q at_i (subst (λ (S : State). TellsSet S slot q) (unmoved i j le l none) at_j);
     yes_or_no_stays = λ i j le l none slot actor r q at_i at_j.
         whether_told_once (released (at run i)) slot actor r q at_i (subst (λ (S : State). TellsWhether S slot actor q) (unmoved i j le l none) at_j);
     cleared_drafts_fit = λ i l D e. (subst (InOrder (Holds run i) (at run i)) e (upright i l).change).2;

@@ -1,5 +1,5 @@
 -- One order of a run: what it keeps, and what it does to the released rules.
-use Rattle.std.proofs.Common.{◌≡◌, ℕ, ◌+◌, ◌<◌, ◌≤◌, Bool, true, false, ◌⊎◌, List, pos, negsuc, ◌≤ℤ◌, Some, None, Ok, Err, Option, Result, sym, refl, ap, ◌∙◌, subst, inl, inr, ⊎_elim, arith, MatchOption}
+use Rattle.std.proofs.Common.{◌≡◌, ℕ, ◌+◌, ◌<◌, ◌≤◌, ◌≢◌, Bool, true, false, ◌⊎◌, List, pos, negsuc, ◌≤ℤ◌, Some, None, Ok, Err, Option, Result, sym, refl, ap, ◌∙◌, subst, inl, inr, ⊎_elim, arith, MatchOption}
 use Rattle.std.proofs.lemmas.Bool.{cases_lt}
 use Rattle.transfer.specs.Contents.{Writing}
 use Rattle.previews.specs.declared.preview.Preview.{Preview}
@@ -34,20 +34,6 @@ use Rattle.law.specs.declared.order.Answer.TheVariants as A
 use Rattle.law.proofs.Carry.{widened, prepared_sound}
 use Rattle.law.proofs.Upright.{InOrder, Upright, upright_wider, drafted, clear}
 
--- a number for each kind of answer
-abbrev pub tag : Answer → ℕ
-tag A.NoCall = 0
-tag (A.Refused w) = 1
-tag A.Opened = 2
-tag A.Stepped = 3
-tag A.Cleared = 4
-tag A.Reopened = 5
-tag A.Released = 6
-tag A.Withdrawn = 7
-tag (A.Set v) = 8
-tag (A.May v) = 9
-tag (A.Preview v) = 10
-
 abbrev pub InRange : Preview → Type 0
 InRange p = (negsuc 63 ≤ℤ p.difference) × (p.difference ≤ℤ pos 63)
 
@@ -59,7 +45,7 @@ module _ {Wr : Writing} {start : Scene} {orders : List Order} {n : ℕ} (run : R
     pub range : (p : Preview) → run.answer k ≡ A.Preview p → InRange p
 
   -- unless a change is opened, the steps held stay held
-  held_on : (k : ℕ) → (tag (run.answer k) ≡ 2 → ⊥) → (step : Step) → Holds run k step → Holds run (k + 1) step
+  held_on : (k : ℕ) → run.answer k ≢ A.Opened → (step : Step) → Holds run k step → Holds run (k + 1) step
   held_on k shut step h =
       record {
         at = h.at;
@@ -67,29 +53,29 @@ module _ {Wr : Writing} {start : Scene} {orders : List Order} {n : ℕ} (run : R
         made = h.made;
         same_change = λ j after before e.
             ⊎_elim (λ (l : j < k). h.same_change j after l e)
-            (λ (l : k ≤ j). let same : j ≡ k = omega arith in shut (ap (λ (i : ℕ). tag (run.answer i)) (sym same) ∙ ap tag e))
+            (λ (l : k ≤ j). let same : j ≡ k = omega arith in shut (ap run.answer (sym same) ∙ e))
             (cases_lt j k);
       }
 
-  no_preview : (k c : ℕ) → tag (run.answer k) ≡ c → (c ≡ 10 → ⊥) → (p : Preview) → run.answer k ≡ A.Preview p → InRange p
-  no_preview k c is other p e = absurd (other (sym is ∙ ap tag e))
+  no_preview : (k : ℕ) (a : Answer) → run.answer k ≡ a → ((p : Preview) → a ≢ A.Preview p) → (p : Preview) → run.answer k ≡ A.Preview p → InRange p
+  no_preview k a is other p e = absurd (other p (sym is ∙ e))
 
   -- only the change in preparation moved
-  advanced : (k c : ℕ) (m : Moment) → tag (run.answer k) ≡ c → (c ≡ 10 → ⊥) → at run (k + 1) ≡ m → released m ≡ released (at run k)
+  advanced : (k : ℕ) (a : Answer) (m : Moment) → run.answer k ≡ a → ((p : Preview) → a ≢ A.Preview p) → at run (k + 1) ≡ m → released m ≡ released (at run k)
       → Upright (Holds run (k + 1)) m → Turn k
-  advanced k c m is other e same u =
-      record { next = subst (Upright (Holds run (k + 1))) (sym e) u; moves = inl (ap released e ∙ same); range = no_preview k c is other }
+  advanced k a m is other e same u =
+      record { next = subst (Upright (Holds run (k + 1))) (sym e) u; moves = inl (ap released e ∙ same); range = no_preview k a is other }
 
   -- nothing moved
-  quiet : (k c : ℕ) → tag (run.answer k) ≡ c → (c ≡ 2 → ⊥) → (c ≡ 10 → ⊥) → at run (k + 1) ≡ at run k → Upright (Holds run k) (at run k) → Turn k
-  quiet k c is shut other e u =
-      advanced k c (at run k) is other e refl (upright_wider (Holds run k) (Holds run (k + 1)) (held_on k (λ o. shut (sym is ∙ o))) (at run k) u)
+  quiet : (k : ℕ) (a : Answer) → run.answer k ≡ a → a ≢ A.Opened → ((p : Preview) → a ≢ A.Preview p) → at run (k + 1) ≡ at run k → Upright (Holds run k) (at run k) → Turn k
+  quiet k a is shut other e u =
+      advanced k a (at run k) is other e refl (upright_wider (Holds run k) (Holds run (k + 1)) (held_on k (λ o. shut (sym is ∙ o))) (at run k) u)
 
   refused : (k : ℕ) (w : Refusal) → run.answer k ≡ A.Refused w → at run (k + 1) ≡ at run k → Upright (Holds run k) (at run k) → Turn k
-  refused k w a e u = quiet k 1 (ap tag a) (λ o. omega arith) (λ o. omega arith) e u
+  refused k w a e u = quiet k (A.Refused w) a (λ o. cc) (λ p o. cc) e u
 
   not_called : (k : ℕ) → NoCall (run.scene k) (run.answer k) (run.scene (k + 1)) → Upright (Holds run k) (at run k) → Turn k
-  not_called k c u = quiet k 0 (ap tag c.answer) (λ o. omega arith) (λ o. omega arith) (ap (λ (s : Scene). s.engine) c.after) u
+  not_called k c u = quiet k A.NoCall c.answer (λ o. cc) (λ p o. cc) (ap (λ (s : Scene). s.engine) c.after) u
 
   -- ── opening ──
 
@@ -101,7 +87,7 @@ module _ {Wr : Writing} {start : Scene} {orders : List Order} {n : ℕ} (run : R
           → Turn k
       by_verdict (Some w) g = refused k w (c.answer ∙ ap (told A.Opened) g.answer) g.after u
       by_verdict None g =
-          advanced k 2 (begun (at run k)) (ap tag (c.answer ∙ ap (told A.Opened) g.answer)) (λ o. omega arith) g.after refl
+          advanced k A.Opened (begun (at run k)) (c.answer ∙ ap (told A.Opened) g.answer) (λ p o. cc) g.after refl
           (record { sound = u.sound; valid = u.valid; change = copied refl })
 
   -- ── steps ──
@@ -115,7 +101,7 @@ module _ {Wr : Writing} {start : Scene} {orders : List Order} {n : ℕ} (run : R
       by_verdict D E mine (Err w) v g = refused k (W.Step w) (c.answer ∙ ap (told A.Stepped) g.answer) g.after u
       by_verdict D E mine (Ok y) v g =
           let accepted : run.answer k ≡ A.Stepped = c.answer ∙ ap (told A.Stepped) g.answer in
-          let so_far = widened (Holds run k) (Holds run (k + 1)) (held_on k (λ o. let z = sym (ap tag accepted) ∙ o in omega arith)) (released (at run k)) D
+          let so_far = widened (Holds run k) (Holds run (k + 1)) (held_on k (λ o. cc)) (released (at run k)) D
           (drafted (Holds run k) (at run k) key D mine u) in
           let now_held : Holds run (k + 1) step = record {
             at = k;
@@ -123,7 +109,7 @@ module _ {Wr : Writing} {start : Scene} {orders : List Order} {n : ℕ} (run : R
             made = record { place = i; order = order; accepted = accepted };
             same_change = λ j after before e. absurd (omega arith);
           } in
-          advanced k 3 (with_change (at run k) (opened E)) (ap tag accepted) (λ o. omega arith) g.after refl
+          advanced k A.Stepped (with_change (at run k) (opened E)) accepted (λ p o. cc) g.after refl
           (record { sound = u.sound; valid = u.valid; change = stepped step so_far now_held v })
 
       by_draft : (o : Option State) → open_draft (at run k) key ≡ o
@@ -150,9 +136,9 @@ module _ {Wr : Writing} {start : Scene} {orders : List Order} {n : ℕ} (run : R
       by_found D mine (Some w) f g = refused k (W.Unfit w) (c.answer ∙ ap (told_back A.Cleared) g.answer) g.after u
       by_found D mine None f g =
           let accepted : run.answer k ≡ A.Cleared = c.answer ∙ ap (told_back A.Cleared) g.answer in
-          let so_far = widened (Holds run k) (Holds run (k + 1)) (held_on k (λ o. let z = sym (ap tag accepted) ∙ o in omega arith)) (released (at run k)) D
+          let so_far = widened (Holds run k) (Holds run (k + 1)) (held_on k (λ o. cc)) (released (at run k)) D
           (drafted (Holds run k) (at run k) key D mine u) in
-          advanced k 4 (with_change (at run k) (cleared D)) (ap tag accepted) (λ o. omega arith) g.after refl
+          advanced k A.Cleared (with_change (at run k) (cleared D)) accepted (λ p o. cc) g.after refl
           (record { sound = u.sound; valid = u.valid; change = (so_far, f.0, f.1) })
 
       by_draft : (o : Option State) → open_draft (at run k) key ≡ o
@@ -172,9 +158,9 @@ module _ {Wr : Writing} {start : Scene} {orders : List Order} {n : ℕ} (run : R
       by_draft None mine g = refused k (W.Ticket 255) (c.answer ∙ ap (told_back A.Reopened) g.answer) g.after u
       by_draft (Some D) mine g =
           let accepted : run.answer k ≡ A.Reopened = c.answer ∙ ap (told_back A.Reopened) g.answer in
-          let so_far = widened (Holds run k) (Holds run (k + 1)) (held_on k (λ o. let z = sym (ap tag accepted) ∙ o in omega arith)) (released (at run k)) D
+          let so_far = widened (Holds run k) (Holds run (k + 1)) (held_on k (λ o. cc)) (released (at run k)) D
           (clear (Holds run k) (at run k) key D mine u).0 in
-          advanced k 5 (with_change (at run k) (opened D)) (ap tag accepted) (λ o. omega arith) g.after refl
+          advanced k A.Reopened (with_change (at run k) (opened D)) accepted (λ p o. cc) g.after refl
           (record { sound = u.sound; valid = u.valid; change = so_far })
 
   -- ── release ──
@@ -200,7 +186,7 @@ module _ {Wr : Writing} {start : Scene} {orders : List Order} {n : ℕ} (run : R
               change = subst (InOrder (Holds run (k + 1)) (at run (k + 1))) (sym ended) tt;
             };
             moves = inr (accepted, subst (Prepared (Holds run k) (released (at run k))) (sym new) was.0);
-            range = no_preview k 6 (ap tag accepted) (λ o. omega arith);
+            range = no_preview k A.Released accepted (λ p o. cc);
           }
 
   -- ── withdrawal ──
@@ -213,43 +199,43 @@ module _ {Wr : Writing} {start : Scene} {orders : List Order} {n : ℕ} (run : R
           → MatchOption o (Gives c.result (Err (W.Ticket 255)) (at run (k + 1)) (at run k)) (λ D. Gives c.result (Ok tt) (at run (k + 1)) (with_change (at run k) idle)) → Turn k
       by_draft None g = refused k (W.Ticket 255) (c.answer ∙ ap (told A.Withdrawn) g.answer) g.after u
       by_draft (Some D) g =
-          advanced k 7 (with_change (at run k) idle) (ap tag (c.answer ∙ ap (told A.Withdrawn) g.answer)) (λ o. omega arith) g.after refl
+          advanced k A.Withdrawn (with_change (at run k) idle) (c.answer ∙ ap (told A.Withdrawn) g.answer) (λ p o. cc) g.after refl
           (record { sound = u.sound; valid = u.valid; change = tt })
 
   -- ── questions ──
 
-  same-engine : (k : ℕ) → run.scene (k + 1) ≡ run.scene k → at run (k + 1) ≡ at run k
-  same-engine k e = ap (λ (s : Scene). s.engine) e
+  same_engine : (k : ℕ) → run.scene (k + 1) ≡ run.scene k → at run (k + 1) ≡ at run k
+  same_engine k e = ap (λ (s : Scene). s.engine) e
 
   asking_set : (k slot : ℕ) → Asked (TellsSet (released (at run k)) slot) told_set (run.scene k) (run.answer k) (run.scene (k + 1))
       → Upright (Holds run k) (at run k) → Turn k
   asking_set k slot c u = by_result c.result c.answer
     where
       by_result : (r : Result Rattle.bits.specs.declared.Bits.Bits Refusal) → run.answer k ≡ told_set r → Turn k
-      by_result (Ok v) e = quiet k 8 (ap tag e) (λ o. omega arith) (λ o. omega arith) (same-engine k c.after) u
-      by_result (Err w) e = refused k w e (same-engine k c.after) u
+      by_result (Ok v) e = quiet k (A.Set v) e (λ o. cc) (λ p o. cc) (same_engine k c.after) u
+      by_result (Err w) e = refused k w e (same_engine k c.after) u
 
   asking_whether : (k slot actor : ℕ) → Asked (TellsWhether (released (at run k)) slot actor) told_whether (run.scene k) (run.answer k) (run.scene (k + 1))
       → Upright (Holds run k) (at run k) → Turn k
   asking_whether k slot actor c u = by_result c.result c.answer
     where
       by_result : (r : Result Bool Refusal) → run.answer k ≡ told_whether r → Turn k
-      by_result (Ok v) e = quiet k 9 (ap tag e) (λ o. omega arith) (λ o. omega arith) (same-engine k c.after) u
-      by_result (Err w) e = refused k w e (same-engine k c.after) u
+      by_result (Ok v) e = quiet k (A.May v) e (λ o. cc) (λ p o. cc) (same_engine k c.after) u
+      by_result (Err w) e = refused k w e (same_engine k c.after) u
 
   previewing : (k slot : ℕ) (key : OpenTicket) → Asked (Foretells (at run k) key slot) told_preview (run.scene k) (run.answer k) (run.scene (k + 1))
       → Upright (Holds run k) (at run k) → Turn k
   previewing k slot key c u = by_result c.result c.defined c.answer
     where
       by_result : (r : Result Preview Refusal) → Foretells (at run k) key slot r → run.answer k ≡ told_preview r → Turn k
-      by_result (Err w) d e = refused k w e (same-engine k c.after) u
+      by_result (Err w) d e = refused k w e (same_engine k c.after) u
       by_result (Ok p) d e =
           let seen = d.1.previewed in
           let most = seen.most (u.valid slot d.1.old d.1.in_book).somebody in
           record {
-            next = subst (Upright (Holds run (k + 1))) (sym (same-engine k c.after))
-                (upright_wider (Holds run k) (Holds run (k + 1)) (held_on k (λ o. let z = sym (ap tag e) ∙ o in omega arith)) (at run k) u);
-            moves = inl (ap released (same-engine k c.after));
+            next = subst (Upright (Holds run (k + 1))) (sym (same_engine k c.after))
+                (upright_wider (Holds run k) (Holds run (k + 1)) (held_on k (λ o. cc)) (at run k) u);
+            moves = inl (ap released (same_engine k c.after));
             range = λ q f.
                 let same : p ≡ q = cc in
                 subst InRange same (seen.least, most);

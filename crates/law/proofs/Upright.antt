@@ -1,5 +1,5 @@
 -- What holds of an engine at every moment, with the steps that its change in preparation held so far.
-use Rattle.std.proofs.Common.{◌≡◌, ℕ, ◌≤◌, Bool, true, false, cond, Some, None, Option, ap, subst, arith}
+use Rattle.std.proofs.Common.{◌≡◌, ◌≤◌, Bool, true, false, cond, Some, None, subst}
 use Rattle.model.specs.Sizes.{size}
 use Rattle.drafts.specs.Steps.{State}
 use Rattle.drafts.specs.declared.step.Step.{Step}
@@ -30,20 +30,17 @@ wider K L wide m (cleared D) p = (widened K L wide (released m) D p.0, p.1, p.2)
 pub upright_wider : (K L : Step → Type 0) → ((step : Step) → K step → L step) → (m : Moment) → Upright K m → Upright L m
 upright_wider K L wide m u = record { sound = u.sound; valid = u.valid; change = wider K L wide m m.change u.change }
 
-none-some : {A B : Type 0} (x : A) → ◌≡◌ {A = Option A} None (Some x) → B
-none-some x e = let z : ◌≡◌ {A = ℕ} 0 1 = cc in absurd (omega arith)
-
 if_open : (b : Bool) (c : Change) (D : State) → cond b (draft_if_open c) None ≡ Some D → c ≡ opened D
-if_open false c D e = none-some D e
-if_open true idle D e = none-some D e
-if_open true (opened E) D e = let same : E ≡ D = cc in ap opened same
-if_open true (cleared E) D e = none-some D e
+if_open false c D e = cc
+if_open true idle D e = cc
+if_open true (opened E) D e = cc
+if_open true (cleared E) D e = cc
 
 if_cleared : (b : Bool) (c : Change) (D : State) → cond b (draft_if_cleared c) None ≡ Some D → c ≡ cleared D
-if_cleared false c D e = none-some D e
-if_cleared true idle D e = none-some D e
-if_cleared true (opened E) D e = none-some D e
-if_cleared true (cleared E) D e = let same : E ≡ D = cc in ap cleared same
+if_cleared false c D e = cc
+if_cleared true idle D e = cc
+if_cleared true (opened E) D e = cc
+if_cleared true (cleared E) D e = cc
 
 -- the draft of an accepted ticket is the change's
 pub drafted : (Kind : Step → Type 0) (m : Moment) (k : OpenTicket) (D : State) → open_draft m k ≡ Some D → Upright Kind m → InOrder Kind m (opened D)

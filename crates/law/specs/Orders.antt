@@ -67,6 +67,11 @@ abbrev pub told_preview : Result Preview Refusal → Answer
 told_preview (Ok v) = A.Preview v
 told_preview (Err w) = A.Refused w
 
+-- The answer of a call, or that it was refused.
+abbrev pub outcome_of : Result Answer Refusal → Answer
+outcome_of (Ok a) = a
+outcome_of (Err w) = A.Refused w
+
 -- ── what lies in the place afterwards ──
 
 abbrev pub after_open : Result OpenTicket Refusal → Option Ticket

@@ -1,16 +1,45 @@
-ghost use Rattle.std.specs.Prelude.{◌≡◌, ◌<◌, length, Some, None, slice_set};
+ghost use Rattle.std.specs.Prelude.{◌≡◌, ◌<◌, length, Some, None, Option, MatchResult, refl, slice_set};
+ghost use Rattle.engine.specs.declared.ticket.Ticket.{Ticket};
 ghost use Rattle.law.specs.Purses.{if_cleared, if_open, ticket_at};
 ghost use Rattle.law.specs.Taking.{Leaves};
 
 use engine::ticket::{ClearedTicket, OpenTicket, Ticket};
 
-// Ends what is known to be no ticket.
-fn nothing(held: Option<Ticket>)
-    requires { held ≡ None }
-{
-    match held {
-        None => {}
-        Some(_ticket) => unreachable(),
+/// A ticket of one stage, among tickets of either.
+pub(crate) trait Staged: Sized {
+    // The ticket in a place, if it is one of this stage.
+    ghost among: { Option Ticket → Option Self };
+
+    // The ticket as one of this stage, or just as it came.
+    fn of(ticket: Ticket) -> Result<Self, Ticket>
+        ensures { MatchResult result (λ own. among (Some ticket) ≡ Some own) (λ other. (among (Some ticket) ≡ None) × (other ≡ ticket)) };
+
+    ghost none_in_an_empty_place: { among None ≡ None };
+}
+
+impl Staged for OpenTicket {
+    ghost among = { if_open };
+
+    ghost none_in_an_empty_place = { refl };
+
+    fn of(ticket: Ticket) -> Result<OpenTicket, Ticket> {
+        match ticket {
+            Ticket::Open(ticket) => Ok(ticket),
+            other => Err(other),
+        }
+    }
+}
+
+impl Staged for ClearedTicket {
+    ghost among = { if_cleared };
+
+    ghost none_in_an_empty_place = { refl };
+
+    fn of(ticket: Ticket) -> Result<ClearedTicket, Ticket> {
+        match ticket {
+            Ticket::Cleared(ticket) => Ok(ticket),
+            other => Err(other),
+        }
     }
 }
 
@@ -20,7 +49,10 @@ pub(crate) fn lay(purse: &mut [Option<Ticket>], i: usize, ticket: Ticket)
     requires free { ticket_at purse.old i ≡ None }
     ensures { purse.new ≡ slice_set purse.old i (Some ticket) }
 {
-    nothing(std::mem::replace(&mut purse[i], Some(ticket)));
+    match purse[i].replace(ticket) {
+        None => {}
+        Some(_ticket) => unreachable!(),
+    }
 }
 
 // Takes the ticket out of the place.
@@ -28,42 +60,23 @@ pub(crate) fn take(purse: &mut [Option<Ticket>], i: usize) -> Option<Ticket>
     ensures ticket { ticket_at purse.old i ≡ result }
     ensures left { Leaves result purse.old i purse.new }
 {
+    // By index: `purse.get_mut(i)?.take()` was tried, and after it the proof knows how many places there are, and not what lies in them.
     if i < purse.len() {
-        std::mem::replace(&mut purse[i], None)
+        purse[i].take()
     } else {
         None
     }
 }
 
-// Takes the ticket of an open change out of the place, if one lies there.
-pub(crate) fn take_open(purse: &mut [Option<Ticket>], i: usize) -> Option<OpenTicket>
-    ensures ticket { if_open (ticket_at purse.old i) ≡ result }
+// Takes the ticket out of the place, if it is one of the stage that is wanted.
+pub(crate) fn take_as<K: Staged>(purse: &mut [Option<Ticket>], i: usize) -> Option<K>
+    ensures ticket { K.among (ticket_at purse.old i) ≡ result }
     ensures left { Leaves result purse.old i purse.new }
 {
-    let Some(held) = take(purse, i) else {
-        return None;
-    };
-    match held {
-        Ticket::Open(ticket) => Some(ticket),
-        Ticket::Cleared(ticket) => {
-            lay(purse, i, Ticket::Cleared(ticket));
-            None
-        }
-    }
-}
-
-// Takes the ticket of a cleared change out of the place, if one lies there.
-pub(crate) fn take_cleared(purse: &mut [Option<Ticket>], i: usize) -> Option<ClearedTicket>
-    ensures ticket { if_cleared (ticket_at purse.old i) ≡ result }
-    ensures left { Leaves result purse.old i purse.new }
-{
-    let Some(held) = take(purse, i) else {
-        return None;
-    };
-    match held {
-        Ticket::Cleared(ticket) => Some(ticket),
-        Ticket::Open(ticket) => {
-            lay(purse, i, Ticket::Open(ticket));
+    match K::of(take(purse, i)?) {
+        Ok(ticket) => Some(ticket),
+        Err(other) => {
+            lay(purse, i, other);
             None
         }
     }
