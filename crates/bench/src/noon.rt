@@ -1,50 +1,16 @@
 use answers::everyone::who;
 use answers::validity::first_absent;
+use bits::Bits;
 use board::Board;
 use drafts::draft::Draft;
-use drafts::step::{Join, Split, Step};
+use drafts::step::Step;
 use model::store::Store;
+use plant::crews::{CREWS_JOIN, CREWS_PART};
 use plant::facts::PLANT;
+use plant::nodes::node;
 use plant::show::Shown;
 use rules::book::Book;
-use rules::bytes::NodeBytes;
 use std::io;
-
-fn node(tag: u8, kind: u8, number: u8, mark: u8) -> NodeBytes {
-    NodeBytes {
-        tag,
-        kind,
-        number,
-        mark,
-    }
-}
-
-fn put<'a>(slot: u8, list: &'a [NodeBytes]) -> Step<'a> {
-    Step::PutRule(slot, list)
-}
-
-fn crews_join() -> Step<'static> {
-    Step::Join(Join {
-        kind: 2,
-        first: 1,
-        second: 2,
-        into: 3,
-    })
-}
-
-// Actors 0 and 1 go back to the early crew, actor 2 to the late one.
-fn crews_part() -> Step<'static> {
-    Step::Split(Split {
-        kind: 2,
-        whole: 3,
-        part1: 1,
-        part2: 2,
-        actors1: 0b011,
-        actors2: 0b100,
-        below1: 0,
-        below2: 0,
-    })
-}
 
 // Takes the step, and prints the refusal where there is one.
 fn take(rt: &HostRuntime, draft: &mut Draft, name: &str, step: Step) -> io::Result<()> {
@@ -52,10 +18,7 @@ fn take(rt: &HostRuntime, draft: &mut Draft, name: &str, step: Step) -> io::Resu
         Ok(_) => println!(rt; "  {name}: taken"),
         Err(refusal) => {
             let numbers = refusal.numbers();
-            println!(rt;
-                "  {name}: refused {} in layer {}, slot {}, node {}",
-                numbers.number, numbers.layer, numbers.slot, numbers.node
-            )
+            println!(rt; "  {name}: refused {numbers}")
         }
     }
 }
@@ -63,16 +26,12 @@ fn take(rt: &HostRuntime, draft: &mut Draft, name: &str, step: Step) -> io::Resu
 // Prints each rule with its people, and whether all that the rules name stands.
 fn tell_rules(rt: &HostRuntime, draft: &Draft) -> io::Result<()> {
     let mut all_stand = true;
-    for slot in 0..32u8 {
-        if let Some(rule) = draft.book.rule(slot) {
-            let people = Shown {
-                set: who(&draft.board, rule),
-            };
-            println!(rt; "  slot {slot}: {rule}: {people}")?;
-            if first_absent(&draft.board, rule).is_some() {
-                all_stand = false;
-            }
-        }
+    for (slot, rule) in draft.book.filled() {
+        let people = Shown {
+            set: who(&draft.board, rule),
+        };
+        println!(rt; "  slot {slot}: {rule}: {people}")?;
+        all_stand &= first_absent(&draft.board, rule).is_none();
     }
     if all_stand {
         println!(rt; "  Every role and unit that a rule names stands.")
@@ -81,13 +40,11 @@ fn tell_rules(rt: &HostRuntime, draft: &Draft) -> io::Result<()> {
     }
 }
 
-// The people of every slot, nobody where it is empty.
-fn people(draft: &Draft) -> [u64; 32] {
-    let mut all = [0u64; 32];
-    for slot in 0..32u8 {
-        if let Some(rule) = draft.book.rule(slot) {
-            all[slot as usize] = who(&draft.board, rule).word;
-        }
+// The people of every slot that has a rule.
+fn people(draft: &Draft) -> [Option<Bits>; 32] {
+    let mut all = [None; 32];
+    for (people, slot) in all.iter_mut().zip(0..32u8) {
+        *people = draft.book.rule(slot).map(|rule| who(&draft.board, rule));
     }
     all
 }
@@ -109,25 +66,25 @@ pub(crate) fn tell_noon(rt: &HostRuntime) -> io::Result<()> {
         rt,
         &mut draft,
         "Rework is for role 1 of the early crew",
-        put(0, &[node(0, 1, 1, 0), node(0, 2, 1, 0), node(2, 0, 0, 0)]),
+        Step::PutRule(0, &[node(0, 1, 1, 0), node(0, 2, 1, 0), node(2, 0, 0, 0)]),
     )?;
     take(
         rt,
         &mut draft,
         "Administration is for role 0 and those below, not of the late crew",
-        put(5, &[node(0, 1, 0, 1), node(1, 2, 2, 0), node(2, 0, 0, 0)]),
+        Step::PutRule(5, &[node(0, 1, 0, 1), node(1, 2, 2, 0), node(2, 0, 0, 0)]),
     )?;
     tell_rules(rt, &draft)?;
-    take(rt, &mut draft, "Units 1 and 2 become unit 3", crews_join())?;
+    take(rt, &mut draft, "Units 1 and 2 become unit 3", CREWS_JOIN)?;
     tell_rules(rt, &draft)?;
     take(
         rt,
         &mut draft,
         "Units 1 and 2 become unit 3 again",
-        crews_join(),
+        CREWS_JOIN,
     )?;
     let before = people(&draft);
-    take(rt, &mut draft, "Unit 3 becomes units 1 and 2", crews_part())?;
+    take(rt, &mut draft, "Unit 3 becomes units 1 and 2", CREWS_PART)?;
     tell_rules(rt, &draft)?;
     let kept = people(&draft) == before;
     println!(rt; "  Every rule kept its people: {kept}")

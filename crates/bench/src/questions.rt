@@ -2,19 +2,11 @@ use answers::everyone::who;
 use answers::one::may;
 use answers::validity::{Invalid, validity};
 use model::reading::Reading;
+use plant::nodes::node;
 use plant::show::Shown;
 use rules::bytes::NodeBytes;
 use rules::rule::Rule;
 use std::io;
-
-fn node(tag: u8, kind: u8, number: u8, mark: u8) -> NodeBytes {
-    NodeBytes {
-        tag,
-        kind,
-        number,
-        mark,
-    }
-}
 
 // Reads a node list into a rule, and prints the rule with its people, and whether actor 0 is one of them.
 fn ask<R: Reading>(rt: &HostRuntime, reading: &R, list: &[NodeBytes]) -> io::Result<()> {
@@ -36,10 +28,7 @@ fn ask<R: Reading>(rt: &HostRuntime, reading: &R, list: &[NodeBytes]) -> io::Res
         }
         Err(fault) => {
             let numbers = fault.numbers(255);
-            println!(rt;
-                "  refused {} in layer {}, slot {}, node {}",
-                numbers.number, numbers.layer, numbers.slot, numbers.node
-            )
+            println!(rt; "  refused {numbers}")
         }
     }
 }

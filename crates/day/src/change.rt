@@ -4,7 +4,6 @@ use engine::refusal::Refusal;
 use engine::ticket::{OpenTicket, Ticket};
 use model::store::Store;
 use previews::preview::Preview;
-use rules::fault::Numbers;
 
 /// How a change went, from its opening to its end.
 #[derive(Clone, Copy)]
@@ -14,11 +13,11 @@ pub struct Account {
     /// How many steps were taken.
     pub taken: u32,
     /// The last step that was refused.
-    pub refused: Option<Numbers>,
+    pub refused: Option<Refusal>,
+    /// What each slot would have, where the preview was not refused.
     pub previews: [Option<Preview>; 32],
-    /// Why the check refused.
-    pub fault: Option<Numbers>,
-    pub released: bool,
+    /// Whether it was released, or why not.
+    pub end: Result<(), Refusal>,
 }
 
 /// Makes the steps one after another. Tells how many were taken, and the last refusal.
@@ -26,13 +25,13 @@ pub(crate) fn make_steps<S: Store>(
     engine: &mut Engine<S>,
     ticket: &OpenTicket,
     steps: &[Step],
-) -> (u32, Option<Numbers>) {
+) -> (u32, Option<Refusal>) {
     let mut taken: u32 = 0;
     let mut refused = None;
     for step in steps {
         match engine.step(ticket, *step) {
             Ok(()) => taken = taken.saturating_add(1),
-            Err(refusal) => refused = Some(refusal.numbers()),
+            Err(refusal) => refused = Some(refusal),
         }
     }
     (taken, refused)
@@ -41,12 +40,26 @@ pub(crate) fn make_steps<S: Store>(
 // What each slot would have if the change were released.
 fn preview_all<S: Store>(engine: &Engine<S>, ticket: &OpenTicket) -> [Option<Preview>; 32] {
     let mut previews = [None; 32];
-    for slot in 0..32u8 {
-        if let Ok(preview) = engine.preview(ticket, slot) {
-            previews[slot as usize] = Some(preview);
-        }
+    for (preview, slot) in previews.iter_mut().zip(0..32u8) {
+        *preview = engine.preview(ticket, slot).ok();
     }
     previews
+}
+
+// Withdraws the change of a ticket that was given back, and passes on why. The client has the same lines, since it stands alone.
+fn give_up<S: Store>(engine: &mut Engine<S>, why: Refusal, ticket: Ticket) -> Refusal {
+    let _ = engine.withdraw(ticket);
+    why
+}
+
+// Checks the change and releases it, or withdraws it and says why.
+fn end<S: Store>(engine: &mut Engine<S>, ticket: OpenTicket) -> Result<(), Refusal> {
+    let cleared = engine
+        .check(ticket)
+        .map_err(|(why, back)| give_up(engine, why, Ticket::Open(back)))?;
+    engine
+        .release(cleared)
+        .map_err(|(why, back)| give_up(engine, why, Ticket::Cleared(back)))
 }
 
 /// Opens a change, makes the steps, previews every slot and checks the draft. A cleared change is released, any other withdrawn.
@@ -58,26 +71,12 @@ pub(crate) fn carry_out<S: Store>(
     let (number, change) = ticket.numbers();
     let (taken, refused) = make_steps(engine, &ticket, steps);
     let previews = preview_all(engine, &ticket);
-    let (fault, released) = match engine.check(ticket) {
-        Ok(cleared) => match engine.release(cleared) {
-            Ok(()) => (None, true),
-            Err((refusal, cleared)) => {
-                let _ = engine.withdraw(Ticket::Cleared(cleared));
-                (Some(refusal.numbers()), false)
-            }
-        },
-        Err((refusal, open)) => {
-            let _ = engine.withdraw(Ticket::Open(open));
-            (Some(refusal.numbers()), false)
-        }
-    };
     Ok(Account {
         engine: number,
         change,
         taken,
         refused,
         previews,
-        fault,
-        released,
+        end: end(engine, ticket),
     })
 }

@@ -1,46 +1,35 @@
 use crate::change::{Account, carry_out, make_steps};
 use crate::steps::plant_steps;
-use drafts::step::{Join, Step};
+use drafts::step::Step;
 use engine::engine::Engine;
 use engine::refusal::Refusal;
 use engine::ticket::Ticket;
 use model::store::Store;
+use plant::crews::CREWS_JOIN;
+use plant::nodes::node;
 use plant::show::Shown;
-use rules::bytes::NodeBytes;
-use rules::fault::Numbers;
 use std::io;
 
-fn node(tag: u8, kind: u8, number: u8, mark: u8) -> NodeBytes {
-    NodeBytes {
-        tag,
-        kind,
-        number,
-        mark,
-    }
-}
-
-fn tell_refusal(rt: &HostRuntime, what: &str, numbers: Numbers) -> io::Result<()> {
-    println!(rt;
-        "  {what} is refused {} in layer {}, slot {}, node {}.",
-        numbers.number, numbers.layer, numbers.slot, numbers.node
-    )
+fn tell_refusal(rt: &HostRuntime, what: &str, refusal: Refusal) -> io::Result<()> {
+    let numbers = refusal.numbers();
+    println!(rt; "  {what} is refused {numbers}.")
 }
 
 // Prints how a change went.
 fn tell_change(rt: &HostRuntime, name: &str, went: Result<Account, Refusal>) -> io::Result<()> {
     let account = match went {
         Ok(account) => account,
-        Err(refusal) => return tell_refusal(rt, "The opening", refusal.numbers()),
+        Err(refusal) => return tell_refusal(rt, "The opening", refusal),
     };
     println!(rt;
         "  Change {} of engine {}: {name}; steps taken: {}.",
         account.change, account.engine, account.taken
     )?;
-    if let Some(numbers) = account.refused {
-        tell_refusal(rt, "A step", numbers)?;
+    if let Some(refusal) = account.refused {
+        tell_refusal(rt, "A step", refusal)?;
     }
-    for slot in 0..32u8 {
-        if let Some(preview) = account.previews[slot as usize] {
+    for (preview, slot) in account.previews.iter().zip(0..32u8) {
+        if let Some(preview) = preview {
             let people = Shown { set: preview.set };
             println!(rt;
                 "    slot {slot} would have {people}: effect {}, difference {}",
@@ -49,16 +38,16 @@ fn tell_change(rt: &HostRuntime, name: &str, went: Result<Account, Refusal>) -> 
             )?;
         }
     }
-    match account.fault {
-        Some(numbers) => tell_refusal(rt, "The check", numbers),
-        None => println!(rt; "  It is cleared and released: {}.", account.released),
+    match account.end {
+        Err(refusal) => tell_refusal(rt, "The check", refusal),
+        Ok(()) => println!(rt; "  It is cleared and released: {}.", account.end.is_ok()),
     }
 }
 
 // Prints every released rule with its people.
 fn tell_rules<S: Store>(rt: &HostRuntime, engine: &Engine<S>) -> io::Result<()> {
-    for slot in 0..32u8 {
-        if let (Some(rule), Ok(set)) = (engine.book().rule(slot), engine.set(slot)) {
+    for (slot, rule) in engine.book().filled() {
+        if let Ok(set) = engine.set(slot) {
             let people = Shown { set };
             println!(rt; "    slot {slot}: {rule}: {people}")?;
         }
@@ -66,44 +55,37 @@ fn tell_rules<S: Store>(rt: &HostRuntime, engine: &Engine<S>) -> io::Result<()> 
     Ok(())
 }
 
-// A rule for which nobody qualifies: the check refuses it. It is taken out again, the change is cleared and reopened, and then withdrawn.
-fn try_rule_for_nobody<S: Store>(engine: &mut Engine<S>) -> Result<(Numbers, bool), Refusal> {
+// A rule for which nobody qualifies: the check refuses it. It is taken out again, the change is cleared and reopened, and then withdrawn. Tells why the
+// check refused, and whether the mended change was cleared and reopened.
+fn try_rule_for_nobody<S: Store>(
+    engine: &mut Engine<S>,
+) -> Result<(Option<Refusal>, bool), Refusal> {
     let ticket = engine.open()?;
     let nobody = [node(1, 2, 0, 1)];
     let _ = make_steps(engine, &ticket, &[Step::PutRule(7, &nobody)]);
     let (refusal, ticket) = match engine.check(ticket) {
         Ok(cleared) => {
             engine.withdraw(Ticket::Cleared(cleared))?;
-            return Ok((no_refusal(), false));
+            return Ok((None, false));
         }
         Err(refused) => refused,
     };
     let _ = make_steps(engine, &ticket, &[Step::RemoveRule(7)]);
-    let mended = match engine.check(ticket) {
-        Ok(cleared) => match engine.reopen(cleared) {
-            Ok(open) => {
-                engine.withdraw(Ticket::Open(open))?;
-                true
-            }
-            Err((_, cleared)) => {
-                engine.withdraw(Ticket::Cleared(cleared))?;
-                false
-            }
-        },
-        Err((_, open)) => {
-            engine.withdraw(Ticket::Open(open))?;
-            false
-        }
+    let left = match engine.check(ticket) {
+        Ok(cleared) => engine
+            .reopen(cleared)
+            .map_err(|(_, back)| Ticket::Cleared(back)),
+        Err((_, back)) => Err(Ticket::Open(back)),
     };
-    Ok((refusal.numbers(), mended))
-}
-
-fn no_refusal() -> Numbers {
-    Numbers {
-        number: 0,
-        layer: 0,
-        slot: 255,
-        node: 255,
+    match left {
+        Ok(open) => {
+            engine.withdraw(Ticket::Open(open))?;
+            Ok((Some(refusal), true))
+        }
+        Err(back) => {
+            engine.withdraw(back)?;
+            Ok((Some(refusal), false))
+        }
     }
 }
 
@@ -131,26 +113,21 @@ fn tell_changes<S: Store>(rt: &HostRuntime, name: &str, engine: &mut Engine<S>) 
         rules,
     )?;
     tell_rules(rt, engine)?;
-    let joined = carry_out(
-        engine,
-        &[Step::Join(Join {
-            kind: 2,
-            first: 1,
-            second: 2,
-            into: 3,
-        })],
-    );
+    let joined = carry_out(engine, &[CREWS_JOIN]);
     tell_change(rt, "units 1 and 2 become unit 3", joined)?;
     tell_rules(rt, engine)?;
     match try_rule_for_nobody(engine) {
-        Ok((numbers, mended)) => {
+        Ok((refused, mended)) => {
             println!(rt; "  A change puts a rule for nobody into slot 7.")?;
-            tell_refusal(rt, "Its check", numbers)?;
+            match refused {
+                Some(refusal) => tell_refusal(rt, "Its check", refusal)?,
+                None => println!(rt; "  Its check refuses nothing.")?,
+            }
             println!(rt;
                 "  With the rule taken out it is cleared, reopened and withdrawn: {mended}."
             )?;
         }
-        Err(refusal) => tell_refusal(rt, "A call", refusal.numbers())?,
+        Err(refusal) => tell_refusal(rt, "A call", refusal)?,
     }
     tell_rules(rt, engine)
 }

@@ -3,17 +3,14 @@ use plant::facts::PLANT;
 
 /// The steps that build the small plant: what stands is added, and pairs are linked.
 pub(crate) fn plant_steps() -> [Step<'static>; 22] {
-    let mut steps = [Step::RemoveRule(0); 22];
-    for i in 0..22 {
-        let fact = PLANT[i];
-        steps[i] = if fact.sort < 3 {
+    PLANT.map(|fact| {
+        if fact.sort < 3 {
             Step::Add(Entity {
                 kind: fact.sort,
                 number: fact.x,
             })
         } else {
             Step::Link(fact)
-        };
-    }
-    steps
+        }
+    })
 }

@@ -9,21 +9,11 @@ pub struct Shown {
 
 impl fmt::Display for Shown {
     fn fmt<W: fmt::Write>(&self, f: &mut fmt::Formatter<W>) -> fmt::Result {
-        let mut first = true;
-        for i in 0..64u8 {
-            if self.set.has(i) {
-                if first {
-                    write!(f, "{{{i}")?;
-                } else {
-                    write!(f, ",{i}")?;
-                }
-                first = false;
-            }
+        let mut before = '{';
+        for number in self.set {
+            write!(f, "{before}{number}")?;
+            before = ',';
         }
-        if first {
-            f.write_str("none")
-        } else {
-            f.write_str("}")
-        }
+        f.write_str(if self.set.is_empty() { "none" } else { "}" })
     }
 }
