@@ -6,6 +6,8 @@ use bits::Bits;
 use model::fact::Fact;
 use model::reading::Reading;
 
+// Not one function in model for all that asks what stands: it would be a new public call that only wraps `holds`.
+
 // Whether the actor stands.
 pub(crate) fn stands<R: Reading>(reading: &R, actor: u8) -> bool
     ensures { result ≡ actor_stands (R.Reading.held reading.now) actor }

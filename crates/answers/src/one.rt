@@ -32,6 +32,7 @@ impl<'a, R: Reading> One<'a, R> {
         })
     }
 
+    // Apart from the set of all members: one method for both would need the answer's `or` and a fold in place of `any`, and would not stop at the first hit.
     // Whether the actor has the role, or belongs to the unit; under (+), also whether it has or belongs to one below it.
     fn is_member(&self, side: Side, number: u8, plus: bool) -> bool
         ensures { Decides result (Reaches (R.Reading.held self.now.reading.now) side number plus self.now.actor) }

@@ -6,7 +6,7 @@ use crate::answer::{Answer, Question};
 use rules::node::Node;
 use std::marker::Model;
 
-// A stack of answers in lent memory. A clause sees the answers, the last first, and how many there is room for.
+// A stack of answers in memory that the caller lends: so the reading is asked for, and nothing is allocated. A clause sees the answers, the last first, and how many there is room for.
 #[derive(Drop)]
 pub(crate) struct Stack<'s, A> {
     lent: &'s mut [A],

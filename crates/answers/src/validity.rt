@@ -21,6 +21,7 @@ pub enum Invalid {
     Nobody,
 }
 
+// Not one function in model for all that asks what stands: it would be a new public call that only wraps `holds`.
 fn name_stands<R: Reading>(reading: &R, leaf: Leaf) -> bool
     ensures { result ≡ name_stands (R.Reading.held reading.now) leaf }
 {

@@ -20,10 +20,11 @@ const ROWS: usize = 259;
 const CAPACITY: usize = 16576;
 
 /// Facts as rows of bits. A row has the facts of one sort and one upper number y, with bit x for each lower number x.
-// It has no `Model`: the value would be a set of facts, and a function has no code. All rows lie in one array of fixed size: nothing is allocated.
+// It has no `Model`: the value would be a set of facts, and a function has no code. All rows lie in one array of fixed size, since nothing is allocated; they are words
+// and not `Bits`, since what the rows say is defined on words.
 #[derive(Clone, Copy)]
 pub struct Board {
-    rows: [u64; 259],
+    rows: [u64; ROWS],
 }
 
 impl Board {
@@ -74,7 +75,7 @@ fn place(fact: PossibleFact) -> usize
 
 // The row of a sort and an upper number, with nothing in it where no such fact is possible. It takes the rows: that each fits its word is known of a
 // lent array, and not of a board's field.
-fn read(rows: &[u64; 259], sort: u8, y: u8) -> Bits
+fn read(rows: &[u64; ROWS], sort: u8, y: u8) -> Bits
     ensures { (x : ℕ) → bit result.word x ≡ marked rows.now sort x y }
 {
     match PossibleFact::try_from(Fact { sort, x: 0, y }) {

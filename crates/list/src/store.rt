@@ -39,6 +39,7 @@ impl<'a> Reading for FactList<'a> {
     fn row(&self, sort: u8, y: u8) -> Bits {
         let mut row = Bits::none();
         for w in &self.words[..self.used] {
+            // Taken apart in place: an inverse of `word` would be one more public function, used here alone, and no plainer.
             if w / 4096 == sort as u32 && w % 64 == y as u32 {
                 row = row.with((w / 64 % 64) as u8);
             }

@@ -17,6 +17,8 @@ impl Fact {
         self.sort < 7 && self.x < 64 && self.y < 64 && (self.sort >= 3 || self.y == 0)
     }
 
+    // A method and no `From`: it is the format of the caller's words, and a public name.
+
     /// The number that stands for the fact in a list of facts.
     pub fn word(self) -> u32
         ensures { result ≡ fact_word self.sort self.x self.y }

@@ -14,6 +14,8 @@ pub trait Reading {
     fn holds(&self, fact: Fact) -> bool
         ensures { result ≡ held self.now fact.sort fact.x fact.y };
 
+    // Sorts stay numbers: a reading is asked with any bytes.
+
     /// The numbers x of the facts in the set that have this sort and this y.
     fn row(&self, sort: u8, y: u8) -> Bits
         ensures { (x : ℕ) → bit result.word x ≡ held self.now sort x y }

@@ -31,7 +31,7 @@ impl Book {
         self.slots.get(usize::from(slot))?.as_ref()
     }
 
-    // Past slot 31 nothing happens. `get_mut` was tried: it does not say what the slots are after the write, and the clause stayed open.
+    // By index. Past slot 31 nothing happens. `get_mut` was tried: it does not say what the slots are after the write, and the clause stayed open.
     fn set(&mut self, slot: u8, rule: Option<Rule>)
         ensures { (i : ℕ) → slot_rule self.new i ≡ (if i == slot && nat_lt slot 32 then rule else slot_rule self.old i) }
     {

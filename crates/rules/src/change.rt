@@ -1,5 +1,7 @@
 use model::side::Side;
 
+// Beside the steps of a draft, which have any byte for the kind and shares: a rule knows its side, and no shares.
+
 /// Two roles, or two units, are joined into one. The numbers may be any.
 #[derive(Clone, Copy, PartialEq, Eq, Debug)]
 pub struct Joining {

@@ -59,7 +59,7 @@ impl Node {
         }
     }
 
-    // Puts what the split makes of the node at the end of the list, or says that there is no room.
+    // Puts what the split makes of the node at the end of the list, or says that there is no room, by `None` as the list does.
     pub(crate) fn split_into(self, splitting: Splitting, list: &mut NodeList) -> Option<()>
         ensures { Appended list.old (node_split splitting self) result list.new }
     {

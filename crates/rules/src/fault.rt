@@ -38,6 +38,7 @@ impl fmt::Display for Numbers {
     }
 }
 
+// The numbers are a table that callers know: they follow from no order of the variants.
 impl Fault {
     /// The four numbers of the fault of a node list that was handed in for the slot.
     pub fn numbers(self, slot: u8) -> Numbers

@@ -20,6 +20,7 @@ impl<'a> Iterator for Filled<'a> {
 
     ghost remaining = { item_count filled_left };
 
+    // The slot is counted here: `enumerate` counts in usize, and a slot is a byte.
     fn next(&mut self) -> Option<(u8, &'a Rule)> {
         while let Some((held, rest)) = self.rest.split_first() {
             let slot = self.slot;

@@ -3,6 +3,8 @@ ghost use Rattle.std.specs.Prelude.{◌≡◌};
 
 use model::side::Side;
 
+// Side, number and mark are not a struct of their own: they are taken apart wherever a leaf is read.
+
 /// One entity, by which people are named: an actor; or those that have a role or belong to a unit, with those of every role or unit below it
 /// where the last is true, the (+).
 #[derive(Clone, Copy, PartialEq, Eq, Debug)]

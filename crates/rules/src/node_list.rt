@@ -34,7 +34,7 @@ impl NodeList {
         &self.nodes[..self.len]
     }
 
-    // Puts the node at the end, or says that there is no room.
+    // Puts the node at the end, or says by `None` that there is no room, the one way to fail: reading a list makes it `Fault::Length`, and a split that does not fit is `None` too.
     pub(crate) fn push(&mut self, node: Node) -> Option<()>
         ensures { Appended self.old (node ∷ []) result self.new }
     {
