@@ -16,6 +16,7 @@ pub mod Ends
 pub mod Circles
 pub mod Parts
 pub mod Read
+pub mod Judged
 pub mod Edited
 pub mod Unmoved
 pub mod SideFacts

@@ -1,10 +1,9 @@
-ghost use Rattle.std.specs.Prelude.{◌≡◌, ℕ, Bool, true, Decides};
+ghost use Rattle.std.specs.Prelude.{◌≡◌, ℕ, true, Decides};
 ghost use Rattle.board.specs.Holding.{facts_of};
-ghost use Rattle.drafts.specs.Checks.{Checked};
 ghost use Rattle.drafts.specs.Ends.{EndIn};
-ghost use Rattle.drafts.specs.Grounds.{InPair, add_verdict, remove_verdict};
+ghost use Rattle.drafts.specs.Grounds.{InPair};
 ghost use Rattle.drafts.specs.Pairs.{pair_number};
-ghost use Rattle.drafts.specs.Ranges.{stands_fact};
+ghost use Rattle.drafts.specs.Judged.{AddJudged, RemoveJudged};
 ghost use Rattle.drafts.specs.States.{state_of};
 ghost use Rattle.drafts.specs.Steps.{Stepped};
 ghost use Rattle.drafts.specs.Unmoved.{Unmoved};
@@ -34,7 +33,7 @@ impl Draft {
         }
     }
 
-    // Whether the entity of this kind and number stands.
+    // Whether the entity of this kind and number stands. Not one function in model for all that asks this: it would be a new public call that only wraps `holds`.
     pub(crate) fn stands(&self, kind: u8, number: u8) -> bool
         ensures { result ≡ facts_of self.now.board kind number 0 }
     {
@@ -46,7 +45,7 @@ impl Draft {
     }
 
     fn may_add(&self, entity: Entity) -> Result<PossibleFact, Refusal>
-        ensures { Checked (add_verdict (facts_of self.now.board) entity.kind entity.number) (λ f. f.fact ≡ stands_fact entity) result }
+        ensures { AddJudged (facts_of self.now.board) entity result }
     {
         let fact = PossibleFact::try_from(entity)?;
         if self.stands(entity.kind, entity.number) {
@@ -66,25 +65,25 @@ impl Draft {
     }
 
     // Whether a pair of the sort has the number as its lower end.
-    fn is_lower_end(&self, sort: u8, number: u8) -> bool
-        ensures { Decides result ((y : ℕ) × (facts_of self.now.board sort number y ≡ true)) }
+    fn is_lower_end(&self, sort: PairSort, number: u8) -> bool
+        ensures { Decides result ((y : ℕ) × (facts_of self.now.board (pair_number sort) number y ≡ true)) }
     {
-        (0..64u8).any(|y| self.board.row(sort, y).has(number))
+        (0..64u8).any(|y| self.board.row(sort.number(), y).has(number))
     }
 
     // Whether a pair of the sort has the number as its upper end.
-    fn is_upper_end(&self, sort: u8, number: u8) -> bool
-        ensures { Decides result ((x : ℕ) × (facts_of self.now.board sort x number ≡ true)) }
+    fn is_upper_end(&self, sort: PairSort, number: u8) -> bool
+        ensures { Decides result ((x : ℕ) × (facts_of self.now.board (pair_number sort) x number ≡ true)) }
     {
-        !self.board.row(sort, number).is_empty()
+        !self.board.row(sort.number(), number).is_empty()
     }
 
     // Whether the entity is in a pair of the sort, at either end.
     fn is_end(&self, sort: PairSort, entity: Entity) -> bool
         ensures { Decides result (EndIn (facts_of self.now.board) (pair_number sort) entity.kind entity.number) }
     {
-        sort.lower_kind() == entity.kind && self.is_lower_end(sort.number(), entity.number)
-            || sort.upper_kind() == entity.kind && self.is_upper_end(sort.number(), entity.number)
+        sort.lower_kind() == entity.kind && self.is_lower_end(sort, entity.number)
+            || sort.upper_kind() == entity.kind && self.is_upper_end(sort, entity.number)
     }
 
     // Whether the entity is in a pair, at either end.
@@ -98,7 +97,7 @@ impl Draft {
     }
 
     fn may_remove(&self, entity: Entity) -> Result<PossibleFact, Refusal>
-        ensures { (paired : Bool) → Decides paired (InPair (facts_of self.now.board) entity.kind entity.number) → Checked (remove_verdict (facts_of self.now.board) entity.kind entity.number paired) (λ f. f.fact ≡ stands_fact entity) result }
+        ensures { RemoveJudged (facts_of self.now.board) entity result }
     {
         let fact = PossibleFact::try_from(entity)?;
         if !self.stands(entity.kind, entity.number) {

@@ -119,6 +119,7 @@ pub(crate) fn checked_rule(slot: u8, list: &[NodeBytes]) -> Result<Rule, Refusal
 {
     match Rule::read(list) {
         Err(Fault::Length) => Err(Refusal::List(slot, Fault::Length)),
+        // Two arms: with one, and `map_err` in it, it stayed open that the rule is the list's.
         Err(fault) => {
             checked_slot(slot)?;
             Err(Refusal::List(slot, fault))
@@ -147,6 +148,7 @@ impl Step<'_> {
     pub fn check_input(self) -> Result<(), Refusal>
         ensures { result ≡ answered (input_verdict self.entry) }
     {
+        // A match and no closures: steps are asked for as an enum, and their number is closed.
         match self {
             Step::Add(entity) | Step::Remove(entity) => {
                 PossibleFact::try_from(entity)?;
@@ -174,7 +176,16 @@ impl Step<'_> {
         Ok(())
     }
 
-    /// The slot that is handed in with the step, or 255 where there is none.
+    // An Option: it is public and promised so; `check_input` is the form with `?`.
+
+    /// The first ground on which the step is refused whatever the draft holds, if its input shows one.
+    pub fn input_refusal(self) -> Option<Refusal>
+        ensures { result ≡ input_verdict self.entry }
+    {
+        self.check_input().err()
+    }
+
+    /// The slot that is handed in with the step, or 255 where there is none: so the four numbers of a refusal say it.
     pub fn slot(self) -> u8
         ensures { result ≡ step_slot self.entry }
     {

@@ -1,8 +1,6 @@
-ghost use Rattle.std.specs.Prelude.{◌≡◌, Bool, Decides};
+ghost use Rattle.std.specs.Prelude.{◌≡◌};
 ghost use Rattle.board.specs.Holding.{facts_of};
-ghost use Rattle.drafts.specs.Checks.{Checked};
-ghost use Rattle.drafts.specs.Grounds.{JoinCircle, join_verdict};
-ghost use Rattle.drafts.specs.Ranges.{joining_in};
+ghost use Rattle.drafts.specs.Judged.{JoinJudged};
 ghost use Rattle.drafts.specs.States.{state_of};
 ghost use Rattle.drafts.specs.Steps.{Stepped};
 ghost use Rattle.drafts.specs.Unmoved.{Unmoved};
@@ -15,7 +13,7 @@ use crate::step::Join;
 
 impl Draft {
     fn may_join(&self, step: Join) -> Result<JoinInRange, Refusal>
-        ensures { (circle : Bool) → Decides circle (JoinCircle (facts_of self.now.board) step.kind step.first step.second step.into) → Checked (join_verdict (facts_of self.now.board) step.kind step.first step.second step.into circle) (λ j. j.joining ≡ joining_in step) result }
+        ensures { JoinJudged (facts_of self.now.board) step result }
     {
         let join = JoinInRange::try_from(step)?;
         if !self.stands(step.kind, step.first) || !self.stands(step.kind, step.second) {

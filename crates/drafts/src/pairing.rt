@@ -11,6 +11,7 @@ use model::fact::Fact;
 use model::possible_fact::PossibleFact;
 use model::side::Side;
 
+// Sorts and kinds are numbers where a reading is asked: it takes any bytes, and a kind's number is the sort of the facts that say what stands.
 impl PairSort {
     /// The number of the sort.
     pub(crate) fn number(self) -> u8
@@ -21,8 +22,6 @@ impl PairSort {
             PairSort::Under(side) => side.under_sort(),
         }
     }
-
-    // Kinds stay numbers here: a kind's number is the sort of the facts that say what stands, and a reading is asked by numbers.
 
     /// The kind of the lower end.
     pub(crate) fn lower_kind(self) -> u8
@@ -90,16 +89,18 @@ impl Pair {
             PairSort::Under(_) => self.x == self.y,
         }
     }
+}
 
-    /// The fact that the pair is.
-    pub(crate) fn fact(self) -> PossibleFact
-        ensures { result.fact ≡ fact_of self }
-    {
+/// The fact that the pair is.
+impl From<Pair> for PossibleFact {
+    ghost from_gives = { λ pair fact. fact.fact ≡ fact_of pair };
+
+    fn from(pair: Pair) -> PossibleFact {
         PossibleFact {
             fact: Fact {
-                sort: self.sort.number(),
-                x: self.x,
-                y: self.y,
+                sort: pair.sort.number(),
+                x: pair.x,
+                y: pair.y,
             },
         }
     }

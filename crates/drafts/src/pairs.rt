@@ -1,10 +1,9 @@
-ghost use Rattle.std.specs.Prelude.{◌≡◌, ℕ, Bool, true, false, Decides};
+ghost use Rattle.std.specs.Prelude.{◌≡◌, true, false, Decides};
 ghost use Rattle.board.specs.Holding.{facts_of};
-ghost use Rattle.drafts.specs.Checks.{Checked};
-ghost use Rattle.drafts.specs.Grounds.{LinkCircle, RelinkCircle, ends_stand, link_verdict, relink_verdict, unlink_verdict};
+ghost use Rattle.drafts.specs.Grounds.{LinkCircle, ends_stand};
 ghost use Rattle.drafts.specs.Circles.{Exchanged};
-ghost use Rattle.drafts.specs.Pairs.{fact_of, pair_number};
-ghost use Rattle.drafts.specs.Read.{PairsOf};
+ghost use Rattle.drafts.specs.Pairs.{pair_number};
+ghost use Rattle.drafts.specs.Judged.{LinkJudged, RelinkJudged, UnlinkJudged};
 ghost use Rattle.drafts.specs.States.{state_of};
 ghost use Rattle.drafts.specs.Steps.{Stepped};
 ghost use Rattle.drafts.specs.Unmoved.{Unmoved};
@@ -17,6 +16,7 @@ use crate::refusal::Refusal;
 use crate::step::Relink;
 use model::chains::has_circle;
 use model::fact::Fact;
+use model::possible_fact::PossibleFact;
 use model::reading::Reading;
 
 impl Draft {
@@ -29,7 +29,7 @@ impl Draft {
     fn is_held(&self, pair: Pair) -> bool
         ensures { result ≡ facts_of self.now.board (pair_number pair.sort) pair.x pair.y }
     {
-        self.board.holds(pair.fact().fact)
+        self.board.holds(PossibleFact::from(pair).fact)
     }
 
     // Whether the pair, put in, would close a circle.
@@ -41,7 +41,7 @@ impl Draft {
             PairSort::Under(side) => {
                 let after = Placed {
                     reading: &self.board,
-                    fact: pair.fact(),
+                    fact: pair.into(),
                     held: true,
                 };
                 has_circle(&after, side)
@@ -50,7 +50,7 @@ impl Draft {
     }
 
     fn may_link(&self, pair: Fact) -> Result<Pair, Refusal>
-        ensures { (circle : Bool) → Decides circle (LinkCircle (facts_of self.now.board) pair.sort pair.x pair.y) → Checked (link_verdict (facts_of self.now.board) pair.sort pair.x pair.y circle) (λ p. fact_of p ≡ pair) result }
+        ensures { LinkJudged (facts_of self.now.board) pair result }
     {
         let pair = Pair::to_hold(pair)?;
         if !self.ends_stand(pair) {
@@ -71,12 +71,12 @@ impl Draft {
         ensures refused { Unmoved result self.old self.new }
     {
         let pair = self.may_link(pair)?;
-        self.write(pair.fact(), true);
+        self.write(pair.into(), true);
         Ok(())
     }
 
     fn may_unlink(&self, pair: Fact) -> Result<Pair, Refusal>
-        ensures { Checked (unlink_verdict (facts_of self.now.board) pair.sort pair.x pair.y) (λ p. fact_of p ≡ pair) result }
+        ensures { UnlinkJudged (facts_of self.now.board) pair result }
     {
         let pair = Pair::try_from(pair)?;
         if !self.ends_stand(pair) {
@@ -94,7 +94,7 @@ impl Draft {
         ensures refused { Unmoved result self.old self.new }
     {
         let pair = self.may_unlink(pair)?;
-        self.write(pair.fact(), false);
+        self.write(pair.into(), false);
         Ok(())
     }
 
@@ -108,12 +108,12 @@ impl Draft {
             PairSort::Under(side) => {
                 let without = Placed {
                     reading: &self.board,
-                    fact: old.fact(),
+                    fact: old.into(),
                     held: false,
                 };
                 let after = Placed {
                     reading: &without,
-                    fact: new.fact(),
+                    fact: new.into(),
                     held: true,
                 };
                 has_circle(&after, side)
@@ -122,7 +122,7 @@ impl Draft {
     }
 
     fn may_relink(&self, step: Relink) -> Result<Exchange, Refusal>
-        ensures { (circle : Bool) → Decides circle (RelinkCircle (facts_of self.now.board) step.sort step.x step.y step.z) → Checked (relink_verdict (facts_of self.now.board) step.sort step.x step.y step.z circle) (PairsOf step) result }
+        ensures { RelinkJudged (facts_of self.now.board) step result }
     {
         let exchange = Exchange::try_from(step)?;
         let Exchange { old, new } = exchange;
@@ -147,8 +147,8 @@ impl Draft {
         ensures refused { Unmoved result self.old self.new }
     {
         let Exchange { old, new } = self.may_relink(step)?;
-        self.write(old.fact(), false);
-        self.write(new.fact(), true);
+        self.write(old.into(), false);
+        self.write(new.into(), true);
         Ok(())
     }
 }

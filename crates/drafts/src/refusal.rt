@@ -1,16 +1,19 @@
 ghost use Rattle.drafts.specs.Refusals.{refusal_numbers};
 ghost use Rattle.drafts.specs.declared.refusal.Refusal.TheVariants.{Range};
-ghost use Rattle.std.specs.Prelude.{◌≡◌};
+ghost use Rattle.rules.specs.Refusals.{numbers_text};
+ghost use Rattle.std.specs.Prelude.{◌≡◌, Some};
 
 use model::side::NoSide;
 use rules::fault::{Fault, Numbers};
+use std::error::Error;
+use std::fmt;
 
 /// Why a step is refused.
 #[derive(Clone, Copy, PartialEq, Eq, Debug)]
 pub enum Refusal {
     /// The node list for this slot is no rule.
     List(u8, Fault),
-    /// A kind, a sort, a number or the slot is out of range; 255 where there is no slot.
+    /// A kind, a sort, a number or the slot is out of range; 255 where there is no slot, as the four numbers say it.
     Range(u8),
     /// Two entities that must differ are one.
     Same,
@@ -34,6 +37,7 @@ pub enum Refusal {
     TooLong(u8),
 }
 
+// The numbers are a table that callers know: they follow from no order of the variants.
 impl Refusal {
     /// The four numbers of the refusal.
     pub fn numbers(self) -> Numbers
@@ -69,3 +73,15 @@ impl From<NoSide> for Refusal {
         Refusal::Range(255)
     }
 }
+
+/// Its four numbers.
+impl fmt::Display for Refusal {
+    ghost output = { λ refusal. Some (numbers_text (refusal_numbers refusal)) };
+
+    fn fmt<W: fmt::Write>(&self, f: &mut fmt::Formatter<W>) -> fmt::Result {
+        let numbers = self.numbers();
+        write!(f, "{numbers}")
+    }
+}
+
+impl Error for Refusal {}

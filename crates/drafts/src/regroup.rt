@@ -22,7 +22,7 @@ fn edit_slot<C: Regrouping>(book: &mut Book, slot: u8, change: &C)
     }
 }
 
-// Edits the rule in every slot, where it does not get too long.
+// Edits the rule in every slot, where it does not get too long. Over slot numbers: a book is written by slot, and `filled` lends it out.
 fn edit_rules<C: Regrouping>(book: &mut Book, change: &C)
     ensures { (i : ℕ) → slots_of book.new i ≡ each_edited (unless_too_long (C.too_long change.now) (C.ruled change.now)) (slots_of book.old) i }
 {

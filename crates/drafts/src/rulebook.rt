@@ -1,5 +1,5 @@
 ghost use Rattle.std.specs.Prelude.{◌≡◌, ℕ, ◌<◌, Some, None};
-ghost use Rattle.drafts.specs.Slots.{slots_of, written};
+ghost use Rattle.drafts.specs.Slots.{slots_of, tree_in, written};
 ghost use Rattle.drafts.specs.States.{state_of};
 ghost use Rattle.drafts.specs.Steps.{Stepped};
 ghost use Rattle.drafts.specs.Unmoved.{Unmoved};
@@ -13,19 +13,15 @@ use rules::book::Book;
 use rules::bytes::NodeBytes;
 use rules::rule::Rule;
 
-// Puts a rule into a slot that a book has.
-fn write_rule(book: &mut Book, slot: u8, rule: Rule)
+// Puts a rule into a slot that a book has, or empties it.
+fn write_slot(book: &mut Book, slot: u8, rule: Option<Rule>)
     requires { slot < 32 }
-    ensures { (i : ℕ) → slots_of book.new i ≡ written (slots_of book.old) slot (Some (rule_tree rule)) i }
+    ensures { (i : ℕ) → slots_of book.new i ≡ written (slots_of book.old) slot (tree_in rule) i }
 {
-    book.put(slot, rule);
-}
-
-// Empties a slot.
-fn clear_rule(book: &mut Book, slot: u8)
-    ensures { (i : ℕ) → slots_of book.new i ≡ written (slots_of book.old) slot None i }
-{
-    book.clear(slot);
+    match rule {
+        Some(rule) => book.put(slot, rule),
+        None => book.clear(slot),
+    }
 }
 
 impl Draft {
@@ -35,7 +31,7 @@ impl Draft {
         ensures refused { Unmoved result self.old self.new }
     {
         let rule = checked_rule(slot, list)?;
-        write_rule(&mut self.book, slot, rule);
+        write_slot(&mut self.book, slot, Some(rule));
         Ok(())
     }
 
@@ -48,7 +44,7 @@ impl Draft {
         if self.book.rule(slot).is_none() {
             return Err(Refusal::Empty(slot));
         }
-        clear_rule(&mut self.book, slot);
+        write_slot(&mut self.book, slot, None);
         Ok(())
     }
 }

@@ -6,6 +6,8 @@ use bits::Bits;
 use model::reading::Reading;
 use model::side::Side;
 
+// It has no `Model`: its value would be functions, and a function has no code.
+
 /// The facts that a reading holds of one side, roles or units, row by row.
 #[derive(Drop)]
 pub(crate) struct SideRows<'a, R> {

@@ -1,11 +1,10 @@
-ghost use Rattle.std.specs.Prelude.{◌≡◌, ℕ, Bool, ◌||◌, Decides, Option};
+ghost use Rattle.std.specs.Prelude.{◌≡◌, ℕ, ◌||◌, Decides, Option};
 ghost use Rattle.bits.specs.Bit.{bit};
 ghost use Rattle.board.specs.Holding.{facts_of};
-ghost use Rattle.drafts.specs.Checks.{Checked};
-ghost use Rattle.drafts.specs.Grounds.{parting_verdict, side_of_kind, split_verdict};
-ghost use Rattle.drafts.specs.Parts.{FittingSplit, SplitOf, parts_of};
-ghost use Rattle.drafts.specs.Shares.{LowestLong, SharesFit, parts_in, too_long};
+ghost use Rattle.drafts.specs.Parts.{parts_of};
+ghost use Rattle.drafts.specs.Shares.{LowestLong, SharesFit, too_long};
 ghost use Rattle.drafts.specs.Slots.{slots_of};
+ghost use Rattle.drafts.specs.Judged.{PartingJudged, SplitJudged};
 ghost use Rattle.drafts.specs.States.{state_of};
 ghost use Rattle.drafts.specs.Steps.{Stepped};
 ghost use Rattle.drafts.specs.Unmoved.{Unmoved};
@@ -35,7 +34,7 @@ fn is_too_long(book: &Book, slot: u8, split: &SplitInRange) -> bool
         .is_some_and(|rule| split.rule(rule).is_none())
 }
 
-// The lowest slot whose rule would get too long.
+// The lowest slot whose rule would get too long. Over slot numbers, empty ones too: the contract speaks of each slot, and `filled` of those with a rule.
 fn long_slot(book: &Book, split: &SplitInRange) -> Option<u8>
     ensures { LowestLong split.now.splitting.side (parts_of split.now) (slots_of book.now) result }
 {
@@ -68,7 +67,7 @@ impl Draft {
 
     // The grounds that the model shows.
     fn may_part(&self, step: Split) -> Result<SplitInRange, Refusal>
-        ensures { (shares : Bool) → Decides shares (SharesFit (facts_of self.now.board) (side_of_kind step.kind) (parts_in step)) → Checked (parting_verdict (facts_of self.now.board) step.kind step.whole step.part1 step.part2 shares) (SplitOf step) result }
+        ensures { PartingJudged (facts_of self.now.board) step result }
     {
         let split = SplitInRange::try_from(step)?;
         if !self.stands(step.kind, step.whole) {
@@ -84,7 +83,7 @@ impl Draft {
     }
 
     fn may_split(&self, step: Split) -> Result<SplitInRange, Refusal>
-        ensures { (shares : Bool) (long : Option ℕ) → Decides shares (SharesFit (facts_of self.now.board) (side_of_kind step.kind) (parts_in step)) → LowestLong (side_of_kind step.kind) (parts_in step) (slots_of self.now.book) long → Checked (split_verdict (facts_of self.now.board) step.kind step.whole step.part1 step.part2 shares long) (FittingSplit step (slots_of self.now.book)) result }
+        ensures { SplitJudged (facts_of self.now.board) (slots_of self.now.book) step result }
     {
         let split = self.may_part(step)?;
         match long_slot(&self.book, &split) {

@@ -18,7 +18,7 @@ pub enum Effect {
 }
 
 impl Effect {
-    /// The number of the effect.
+    /// The number of the effect, as callers know it.
     pub fn number(self) -> u8
         ensures { result ≡ effect_number self }
     {

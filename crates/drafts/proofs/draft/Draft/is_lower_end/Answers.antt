@@ -5,12 +5,13 @@ use Rattle.model.proofs.Possible.{parts}
 use Rattle.model.proofs.Ranges.{any_below}
 use Rattle.board.specs.Holding.{facts_of}
 use Rattle.board.specs.OnlyPossible.{only_possible}
+use Rattle.drafts.specs.Pairs.{pair_number}
 use Rattle.drafts.proofs.draft.Draft.is_lower_end.Goals as goal
 
 pub returns : goal.returns
 returns c =
     let F = facts_of c.args.self.now.board in
-    let s = c.args.sort in
+    let s = pair_number c.args.sort in
     let n = c.args.number in
     let t = any_below c.any.result 64 (λ y. F s n y ≡ true) (λ y. F s n y ≡ true → ⊥)
     (cases_from_any _ _ c.any.result (λ y. F s n y ≡ true) (λ y. F s n y ≡ true → ⊥) c.any.ensures.ran (YieldsList-from_range 0 64 64 refl refl)

@@ -18,7 +18,7 @@ returns-clause-stepped c circle d =
     is_taken _ _ _ _ checked.0
     (λ s x y.
     c.write-2.ensures.facts s x y
-    ∙ placed_as G c.fact-2.result.fact new (c.fact-2.ensures ∙ checked.1.1) true s x y
+    ∙ placed_as G c.into-2.result.fact new (c.into-2.ensures ∙ checked.1.1) true s x y
     ∙ placed_over G (placed F old.sort old.x old.y false)
-    (λ a b e. c.write.ensures.facts a b e ∙ placed_as F c.fact.result.fact old (c.fact.ensures ∙ checked.1.0) false a b e) new.sort new.x new.y true s x y)
+    (λ a b e. c.write.ensures.facts a b e ∙ placed_as F c.into.result.fact old (c.into.ensures ∙ checked.1.0) false a b e) new.sort new.x new.y true s x y)
     (λ i. ap (λ (b : Book). slots_of b i) (c.write-2.ensures.book ∙ c.write.ensures.book))
