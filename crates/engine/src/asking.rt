@@ -1,8 +1,10 @@
 ghost use Rattle.drafts.specs.Slots.{slots_of};
+ghost use Rattle.engine.specs.Answered.{answered, refused_if};
 ghost use Rattle.engine.specs.Asking.{Foretells, RuleAt, TellsSet, TellsWhether};
 ghost use Rattle.engine.specs.Moments.{released};
 ghost use Rattle.engine.specs.Views.{moment};
-ghost use Rattle.std.specs.Prelude.{◌≡◌};
+ghost use Rattle.engine.specs.declared.refusal.Refusal.TheVariants.{Range};
+ghost use Rattle.std.specs.Prelude.{◌≡◌, not, None};
 
 use crate::change::Stage;
 use crate::engine::Engine;
@@ -15,6 +17,17 @@ use model::store::Store;
 use previews::preview::{Preview, compare};
 use rules::book::Book;
 use rules::rule::Rule;
+
+// Refuses a question about what is out of range.
+fn in_range(given: bool, slot: u8) -> Result<(), Refusal>
+    ensures { result ≡ answered (refused_if (not given) (Range slot) None) tt }
+{
+    if given {
+        Ok(())
+    } else {
+        Err(Refusal::Range(slot))
+    }
+}
 
 // The rule in the slot asked about.
 fn rule_at(book: &Book, slot: u8) -> Result<&Rule, Refusal>
@@ -42,9 +55,7 @@ impl<S: Store> Engine<S> {
     pub fn set(&self, slot: u8) -> Result<Bits, Refusal>
         ensures { TellsSet (released (moment S.Reading S.Store.own self.now)) slot result }
     {
-        if slot >= 32 {
-            return Err(Refusal::Range(slot));
-        }
+        in_range(slot < 32, slot)?;
         Ok(who(&self.store, rule_at(&self.book, slot)?))
     }
 
@@ -52,9 +63,7 @@ impl<S: Store> Engine<S> {
     pub fn may(&self, slot: u8, actor: u8) -> Result<bool, Refusal>
         ensures { TellsWhether (released (moment S.Reading S.Store.own self.now)) slot actor result }
     {
-        if slot >= 32 || actor >= 64 {
-            return Err(Refusal::Range(slot));
-        }
+        in_range(slot < 32 && actor < 64, slot)?;
         Ok(may(&self.store, rule_at(&self.book, slot)?, actor))
     }
 
@@ -62,9 +71,7 @@ impl<S: Store> Engine<S> {
     pub fn preview(&self, ticket: &OpenTicket, slot: u8) -> Result<Preview, Refusal>
         ensures { Foretells (moment S.Reading S.Store.own self.now) ticket.now slot result }
     {
-        if slot >= 32 {
-            return Err(Refusal::Range(slot));
-        }
+        in_range(slot < 32, slot)?;
         let draft = self
             .draft_at(Stage::Open, ticket.numbers())
             .ok_or(Refusal::Ticket(slot))?;

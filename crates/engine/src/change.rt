@@ -23,6 +23,8 @@ pub struct Change {
 }
 
 impl<S: Store> Engine<S> {
+    // The numbers are a pair, as a ticket's own `numbers` gives them, in these three, and the stage is the caller's, who knows it.
+
     // Whether the change in preparation is at this stage, and a ticket with these numbers is its ticket.
     pub(crate) fn is_at(&self, stage: Stage, numbers: (u16, u32)) -> bool
         ensures { result ≡ is_some (draft_at (moment S.Reading S.Store.own self.now) stage numbers.0 numbers.1) }

@@ -26,7 +26,7 @@ fn check_slot(draft: &Draft, slot: u8) -> Result<(), Invalid>
 fn check_draft(draft: &Draft, capacity: usize) -> Result<(), Unfit>
     ensures { Finds capacity (state_of draft.now) (result_err result) }
 {
-    // By `if let`: with `map_err(..)?` it stayed open what the refusal says of the slot.
+    // Over slot numbers, since the contract speaks of each slot. By `if let`: with `map_err(..)?` it stayed open what the refusal says of the slot.
     for slot in 0..32u8 {
         if let Err(why) = check_slot(draft, slot) {
             return Err(Unfit::Rule(slot, why));

@@ -2,6 +2,8 @@ use crate::change::Change;
 use model::store::Store;
 use rules::book::Book;
 
+// It has no `Model`: a moment holds sets of facts, which are functions and have no code, and a refused call must leave the very same engine.
+
 /// A released model in its store, a released book, and at most one change in preparation.
 pub struct Engine<S: Store> {
     pub(crate) store: S,

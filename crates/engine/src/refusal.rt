@@ -1,10 +1,13 @@
 ghost use Rattle.engine.specs.Refusals.{in_layer_3, refusal_numbers, unfit_numbers};
 ghost use Rattle.engine.specs.declared.refusal.Refusal.TheVariants.{Step as StepRefused, Unfit as IsUnfit};
-ghost use Rattle.std.specs.Prelude.{◌≡◌};
+ghost use Rattle.rules.specs.Refusals.{numbers_text};
+ghost use Rattle.std.specs.Prelude.{◌≡◌, Some};
 
 use answers::validity::Invalid;
 use drafts::refusal::Refusal as StepRefusal;
 use rules::fault::Numbers;
+use std::error::Error;
+use std::fmt;
 
 /// Why a draft cannot be released.
 #[derive(Clone, Copy, PartialEq, Eq, Debug)]
@@ -20,7 +23,7 @@ pub enum Unfit {
 pub enum Refusal {
     /// The step is refused for its input or for what the draft holds.
     Step(StepRefusal),
-    /// The ticket is not that of the change in preparation; with the slot handed to the call, or 255.
+    /// The ticket is not that of the change in preparation; with the slot handed to the call, or 255, as the four numbers say it.
     Ticket(u8),
     /// A change is open or cleared already.
     Busy,
@@ -91,3 +94,15 @@ impl Refusal {
         }
     }
 }
+
+/// Its four numbers.
+impl fmt::Display for Refusal {
+    ghost output = { λ refusal. Some (numbers_text (refusal_numbers refusal)) };
+
+    fn fmt<W: fmt::Write>(&self, f: &mut fmt::Formatter<W>) -> fmt::Result {
+        let numbers = self.numbers();
+        write!(f, "{numbers}")
+    }
+}
+
+impl Error for Refusal {}

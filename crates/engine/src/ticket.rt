@@ -34,7 +34,7 @@ impl OpenTicket {
         (self.engine, self.change)
     }
 
-    // The ticket once the change is cleared.
+    // The ticket once the change is cleared. No `From`: it would be public, and anyone could clear a change.
     pub(crate) fn cleared(self) -> ClearedTicket
         ensures { result ≡ cleared_ticket self.engine self.change }
     {
@@ -53,7 +53,7 @@ impl ClearedTicket {
         (*engine, *change)
     }
 
-    // The ticket once the change is open again.
+    // The ticket once the change is open again. No `From`, as above.
     pub(crate) fn opened(self) -> OpenTicket
         ensures { result ≡ open_ticket self.engine self.change }
     {

@@ -11,6 +11,8 @@ use engine::refusal::Refusal;
 use engine::ticket::Ticket;
 use model::store::Store;
 
+// Engine and purse are two parameters in each: a struct around both would be taken apart again in each, and in `run`.
+
 // Opens a change, if the place is free for its ticket.
 fn open<S: Store>(
     engine: &mut Engine<S>,

@@ -3,6 +3,8 @@ use drafts::step::Step;
 use engine::refusal::Refusal;
 use previews::preview::Preview;
 
+// A place of the purse stands for a ticket: orders are data that can be copied, and tickets cannot.
+
 /// One call to be made. Calls with a ticket name the place of the purse where it lies; an opening names the free place for its ticket.
 #[derive(Clone, Copy)]
 pub enum Order<'a> {

@@ -5,6 +5,8 @@ ghost use Rattle.law.specs.Taking.{Leaves};
 
 use engine::ticket::{ClearedTicket, OpenTicket, Ticket};
 
+// A trait of its own: a bound `TryFrom<Ticket>` does not say which ticket of a purse is one of the stage.
+
 /// A ticket of one stage, among tickets of either.
 pub(crate) trait Staged: Sized {
     // The ticket in a place, if it is one of this stage.
@@ -43,12 +45,15 @@ impl Staged for ClearedTicket {
     }
 }
 
+// Purse and place are two parameters here: an order names the place, and the purse is the caller's; a struct of both would be made anew for each call.
+
 // Lays a ticket into an empty place.
 pub(crate) fn lay(purse: &mut [Option<Ticket>], i: usize, ticket: Ticket)
     requires place { i < length purse.old }
     requires free { ticket_at purse.old i ≡ None }
     ensures { purse.new ≡ slice_set purse.old i (Some ticket) }
 {
+    // By a match: an assignment would let go of what lies there, and a ticket is not `Drop`.
     match purse[i].replace(ticket) {
         None => {}
         Some(_ticket) => unreachable!(),

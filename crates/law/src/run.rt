@@ -22,6 +22,7 @@ pub fn run<S: Store>(
 {
     let mut engine = Engine::new(store, number);
     let n = orders.len().min(answers.len());
+    // The answers lie beside the orders, in room that the caller lends, since nothing is allocated.
     // By index: `answers.iter_mut().zip(orders)` was tried, and after it the proof knows how many answers there are, and none of what was written.
     for i in 0..n {
         answers[i] = obey(&mut engine, purse, orders[i]);
