@@ -1,3 +1,5 @@
+ghost use Rattle.std.specs.Prelude.{◌<◌};
+
 use answers::everyone::who;
 use answers::validity::first_absent;
 use bits::Bits;
@@ -10,16 +12,13 @@ use plant::facts::PLANT;
 use plant::nodes::node;
 use plant::show::Shown;
 use rules::book::Book;
-use std::io;
+use std::{array, io};
 
 // Takes the step, and prints the refusal where there is one.
 fn take(rt: &HostRuntime, draft: &mut Draft, name: &str, step: Step) -> io::Result<()> {
     match draft.step(step) {
         Ok(_) => println!(rt; "  {name}: taken"),
-        Err(refusal) => {
-            let numbers = refusal.numbers();
-            println!(rt; "  {name}: refused {numbers}")
-        }
+        Err(refusal) => println!(rt; "  {name}: refused {refusal}"),
     }
 }
 
@@ -42,11 +41,16 @@ fn tell_rules(rt: &HostRuntime, draft: &Draft) -> io::Result<()> {
 
 // The people of every slot that has a rule.
 fn people(draft: &Draft) -> [Option<Bits>; 32] {
-    let mut all = [None; 32];
-    for (people, slot) in all.iter_mut().zip(0..32u8) {
-        *people = draft.book.rule(slot).map(|rule| who(&draft.board, rule));
-    }
-    all
+    array::from_fn(
+        |slot: usize| -> Option<Bits>
+            requires { slot < 32 }
+        {
+            draft
+                .book
+                .rule(slot as u8)
+                .map(|rule| who(&draft.board, rule))
+        },
+    )
 }
 
 /// Joins the two crews at noon and splits them again, and prints the rules with their people before and after.

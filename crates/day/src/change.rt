@@ -1,9 +1,12 @@
+ghost use Rattle.std.specs.Prelude.{◌<◌};
+
 use drafts::step::Step;
 use engine::engine::Engine;
 use engine::refusal::Refusal;
 use engine::ticket::{OpenTicket, Ticket};
 use model::store::Store;
 use previews::preview::Preview;
+use std::array;
 
 /// How a change went, from its opening to its end.
 #[derive(Clone, Copy)]
@@ -39,11 +42,11 @@ pub(crate) fn make_steps<S: Store>(
 
 // What each slot would have if the change were released.
 fn preview_all<S: Store>(engine: &Engine<S>, ticket: &OpenTicket) -> [Option<Preview>; 32] {
-    let mut previews = [None; 32];
-    for (preview, slot) in previews.iter_mut().zip(0..32u8) {
-        *preview = engine.preview(ticket, slot).ok();
-    }
-    previews
+    array::from_fn(
+        |slot: usize| -> Option<Preview>
+            requires { slot < 32 }
+        { engine.preview(ticket, slot as u8).ok() },
+    )
 }
 
 // Withdraws the change of a ticket that was given back, and passes on why. The client has the same lines, since it stands alone.

@@ -5,6 +5,7 @@ mod change;
 mod noon;
 mod orders;
 mod steps;
+mod told;
 
 use board::Board;
 use list::list::FactList;

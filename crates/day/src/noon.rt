@@ -1,5 +1,6 @@
 use crate::change::{Account, carry_out, make_steps};
 use crate::steps::plant_steps;
+use crate::told::Foretold;
 use drafts::step::Step;
 use engine::engine::Engine;
 use engine::refusal::Refusal;
@@ -11,8 +12,7 @@ use plant::show::Shown;
 use std::io;
 
 fn tell_refusal(rt: &HostRuntime, what: &str, refusal: Refusal) -> io::Result<()> {
-    let numbers = refusal.numbers();
-    println!(rt; "  {what} is refused {numbers}.")
+    println!(rt; "  {what} is refused {refusal}.")
 }
 
 // Prints how a change went.
@@ -28,19 +28,15 @@ fn tell_change(rt: &HostRuntime, name: &str, went: Result<Account, Refusal>) -> 
     if let Some(refusal) = account.refused {
         tell_refusal(rt, "A step", refusal)?;
     }
-    for (preview, slot) in account.previews.iter().zip(0..32u8) {
+    for (slot, preview) in account.previews.iter().enumerate() {
         if let Some(preview) = preview {
-            let people = Shown { set: preview.set };
-            println!(rt;
-                "    slot {slot} would have {people}: effect {}, difference {}",
-                preview.effect.number(),
-                preview.difference
-            )?;
+            let told = Foretold(*preview);
+            println!(rt; "    slot {slot} {told}")?;
         }
     }
     match account.end {
         Err(refusal) => tell_refusal(rt, "The check", refusal),
-        Ok(()) => println!(rt; "  It is cleared and released: {}.", account.end.is_ok()),
+        Ok(()) => println!(rt; "  It is cleared and released: true."),
     }
 }
 
@@ -56,17 +52,17 @@ fn tell_rules<S: Store>(rt: &HostRuntime, engine: &Engine<S>) -> io::Result<()> 
 }
 
 // A rule for which nobody qualifies: the check refuses it. It is taken out again, the change is cleared and reopened, and then withdrawn. Tells why the
-// check refused, and whether the mended change was cleared and reopened.
+// check refused, and whether the mended change was cleared and reopened; or nothing, where the check refused nothing.
 fn try_rule_for_nobody<S: Store>(
     engine: &mut Engine<S>,
-) -> Result<(Option<Refusal>, bool), Refusal> {
+) -> Result<Option<(Refusal, bool)>, Refusal> {
     let ticket = engine.open()?;
     let nobody = [node(1, 2, 0, 1)];
     let _ = make_steps(engine, &ticket, &[Step::PutRule(7, &nobody)]);
     let (refusal, ticket) = match engine.check(ticket) {
         Ok(cleared) => {
             engine.withdraw(Ticket::Cleared(cleared))?;
-            return Ok((None, false));
+            return Ok(None);
         }
         Err(refused) => refused,
     };
@@ -80,11 +76,11 @@ fn try_rule_for_nobody<S: Store>(
     match left {
         Ok(open) => {
             engine.withdraw(Ticket::Open(open))?;
-            Ok((Some(refusal), true))
+            Ok(Some((refusal, true)))
         }
         Err(back) => {
             engine.withdraw(back)?;
-            Ok((Some(refusal), false))
+            Ok(Some((refusal, false)))
         }
     }
 }
@@ -117,16 +113,14 @@ fn tell_changes<S: Store>(rt: &HostRuntime, name: &str, engine: &mut Engine<S>) 
     tell_change(rt, "units 1 and 2 become unit 3", joined)?;
     tell_rules(rt, engine)?;
     match try_rule_for_nobody(engine) {
-        Ok((refused, mended)) => {
+        Ok(Some((refusal, mended))) => {
             println!(rt; "  A change puts a rule for nobody into slot 7.")?;
-            match refused {
-                Some(refusal) => tell_refusal(rt, "Its check", refusal)?,
-                None => println!(rt; "  Its check refuses nothing.")?,
-            }
+            tell_refusal(rt, "Its check", refusal)?;
             println!(rt;
                 "  With the rule taken out it is cleared, reopened and withdrawn: {mended}."
             )?;
         }
+        Ok(None) => println!(rt; "  The check of a rule for nobody refuses nothing.")?,
         Err(refusal) => tell_refusal(rt, "A call", refusal)?,
     }
     tell_rules(rt, engine)
