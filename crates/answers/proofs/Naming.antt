@@ -50,7 +50,7 @@ all_of_two F s t v e =
     list_all-append (node_stands F) (nodes s) (nodes t ++ (v ∷ []))
     ∙ ap (λ b. all_stand F (nodes s) && b) (list_all-append (node_stands F) (nodes t) (v ∷ []) ∙ and-true (all_stand F (nodes t)) (all_stand F (v ∷ [])) (and_from (node_stands F v) true e refl))
 
-names_all : (F : Facts) (t : Tree) → NamesStand F t → all_stand F (nodes t) ≡ true
+pub names_all : (F : Facts) (t : Tree) → NamesStand F t → all_stand F (nodes t) ≡ true
 names_all F (is l) h = and_from _ true h refl
 names_all F (isnt l) h = and_from _ true h refl
 names_all F (both s t) h = all_of_two F s t And refl ∙ and_from _ _ (names_all F s h.0) (names_all F t h.1)

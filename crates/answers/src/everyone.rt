@@ -46,7 +46,7 @@ impl<'a, R: Reading> Question<Bits> for Everyone<'a, R> {
 
     fn leaf(&self, leaf: Leaf) -> Bits {
         match leaf {
-            Leaf::Actor(actor) => Bits::none().with(actor),
+            Leaf::Actor(actor) => standing(self.reading).and(Bits::none().with(actor)),
             Leaf::Group(side, number, plus) => self.members(side, number, plus),
         }
     }

@@ -4,6 +4,8 @@
 mod account;
 mod noon;
 mod questions;
+#[cfg(test)]
+mod tests;
 
 use account::{ask_chains, ask_facts, close_circle, fill};
 use board::Board;

@@ -127,6 +127,11 @@ without-cond true false = refl
 without-cond false true = refl
 without-cond false false = refl
 
+-- a choice between equals is no choice
+pub either_way : {A : Type 0} (b : Bool) (x : A) → x ≡ cond b x x
+either_way true x = refl
+either_way false x = refl
+
 -- there is room for every possible fact
 pub takes-possible : (S : Facts) (s x y : ℕ) → possible s x y ≡ true → takes S 16576 s x y ≡ true
 takes-possible S s x y can =

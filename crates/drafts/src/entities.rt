@@ -14,6 +14,7 @@ use crate::draft::Draft;
 use crate::pair::PairSort;
 use crate::refusal::Refusal;
 use crate::step::Entity;
+use bits::Bits;
 use model::fact::Fact;
 use model::possible_fact::PossibleFact;
 use model::reading::Reading;
@@ -64,11 +65,15 @@ impl Draft {
         Ok(())
     }
 
-    // Whether a pair of the sort has the number as its lower end.
+    // Whether a pair of the sort has the number as its lower end. By `or` and not by `any`: with no test between its rows the pass is faster.
     fn is_lower_end(&self, sort: PairSort, number: u8) -> bool
         ensures { Decides result ((y : ℕ) × (facts_of self.now.board (pair_number sort) number y ≡ true)) }
     {
-        (0..64u8).any(|y| self.board.row(sort.number(), y).has(number))
+        let mut lower = Bits::none();
+        for y in 0..64u8 {
+            lower = lower.or(self.board.row(sort.number(), y));
+        }
+        lower.has(number)
     }
 
     // Whether a pair of the sort has the number as its upper end.

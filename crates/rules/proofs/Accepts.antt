@@ -145,7 +145,7 @@ fields_back i (n ∷ ns) e =
     (cond-true _ _ _ x.0 ∙ r.0, cc)
 
 -- nodes without a fault in field or shape are one rule
-whole : (bs : List NodeBytes) → bad_field 0 bs ≡ None → bad_shape 0 0 (map node_of bs) ≡ None → one_rule (map node_of bs) ≡ true
+pub whole : (bs : List NodeBytes) → bad_field 0 bs ≡ None → bad_shape 0 0 (map node_of bs) ≡ None → one_rule (map node_of bs) ≡ true
 whole bs e h = and_from (nodes_in_range (map node_of bs)) (no_fault (bad_shape 0 0 (map node_of bs))) (fields 0 bs e).0 (ap no_fault h)
 
 -- and so are the nodes that a list was read into

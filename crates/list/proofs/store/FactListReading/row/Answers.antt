@@ -24,7 +24,7 @@ loop-w-preserved c x =
       | then-w-sort+then-w-y b ↦
           ap (λ r. bit r.word x) b.row-is ∙ b.with-row.ensures x ∙ ap₂ ◌||◌ (c.loop-w.invariant x) refl ∙ sym (row_hit ws i s x y w at can b.if-w-sort.true b.if-w-y.true)
       | else-w-sort b ↦
-          ap (λ r. bit r.word x) b.row-is ∙ c.loop-w.invariant x ∙ sym (row_miss ws i s x y w at can (λ es ey. elim b.else-w-sort.branch [
+          ap (λ r. bit r.word x) b.row-is ∙ c.loop-w.invariant x ∙ sym (row_miss ws i s x y w at (λ es ey. elim b.else-w-sort.branch [
             | else-w-sort-via-then-w-sort+else-w-y d ↦ d.if-w-y.false ey
             | else-w-sort-via-else-w-sort d ↦ d.if-w-sort.false es
           ]))
