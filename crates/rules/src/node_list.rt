@@ -38,7 +38,12 @@ impl NodeList {
     pub(crate) fn push(&mut self, node: Node) -> Option<()>
         ensures { Appended self.old (node ∷ []) result self.new }
     {
-        self.extend(&[node])
+        if self.len >= MOST_NODES {
+            return None;
+        }
+        self.nodes[self.len] = node;
+        self.len += 1;
+        Some(())
     }
 
     // Puts the nodes at the end, or says that there is no room for all.
